@@ -3,7 +3,7 @@
 use crate::fuse::{ENDLESS, Fuse, FusedBarrier, LogLeft};
 use crate::given::Given;
 use crate::life::hand_in_again;
-use crate::lines::{Coming, EndWithRun, MemoryAcceptor, MemoryDial, Sends};
+use crate::lines::{Coming, EndWithRun, MemoryAcceptor, MemoryDial};
 use crate::stop::Stop;
 use coordinator::Coordinator;
 use crossbeam_channel::{Receiver, Sender};
@@ -87,13 +87,9 @@ fn federate_at<R: Runtime>(
 ) -> Result<bool, Stop> {
     let (file, is_told) = begun(rt, alloc, head, shared, kept)?;
     let ending = Ending::new();
-    let sends = Sends::new();
-    let barrier = FusedBarrier::new(alloc, shared, file, fuse, &ending, &sends);
+    let barrier = FusedBarrier::new(alloc, shared, file, fuse, &ending);
     // One whose log says that the run is finished asks nobody.
-    let has_run = is_told
-        || joins(
-            rt, alloc, number, to, finished, shared, &barrier, &sends, &ending,
-        );
+    let has_run = is_told || joins(rt, alloc, number, to, finished, shared, &barrier, &ending);
     barrier.leave(has_run && finished.is_set(), kept)
 }
 
@@ -107,7 +103,6 @@ fn joins<R: Runtime, B: Barrier + Sync>(
     finished: &Ending,
     shared: &Shared<Federate<'_>>,
     barrier: &B,
-    sends: &Sends,
     ending: &Ending,
 ) -> bool {
     let Ok(heard) = Heard::new(alloc, 0) else {
@@ -123,7 +118,6 @@ fn joins<R: Runtime, B: Barrier + Sync>(
             to,
             heard: &heard,
             barrier,
-            sends,
         },
         terms: TERMS,
     };
@@ -180,10 +174,9 @@ fn coordinator_at<R: Runtime>(
 ) -> Result<bool, Stop> {
     let (file, _) = begun(rt, alloc, head, shared, kept)?;
     let ending = Ending::new();
-    let sends = Sends::new();
-    let barrier = FusedBarrier::new(alloc, shared, file, fuse, &ending, &sends);
+    let barrier = FusedBarrier::new(alloc, shared, file, fuse, &ending);
     let has_run = coordinates(
-        rt, alloc, count, coming, finished, shared, &barrier, &sends, &ending,
+        rt, alloc, count, coming, finished, shared, &barrier, &ending,
     );
     let is_over = has_run && shared.finished(rt) && barrier.tell(rt).is_ok();
     if is_over {
@@ -201,7 +194,6 @@ fn coordinates<R: Runtime, B: Barrier + Sync>(
     finished: &Ending,
     shared: &Shared<Coordinator<'_>>,
     barrier: &B,
-    sends: &Sends,
     ending: &Ending,
 ) -> bool {
     if shared.finished(rt) {
@@ -224,7 +216,6 @@ fn coordinates<R: Runtime, B: Barrier + Sync>(
             current,
             heard: &heard,
             barrier,
-            sends,
         },
     };
     let watcher = EndWithRun {

@@ -1,5 +1,4 @@
 //! The barrier of a node in threads that is dropped at one of its sends.
-use crate::lines::Sends;
 use crate::stop::Stop;
 use desk::Shared;
 use fedrun_logs::{LogBarrier, LogFile};
@@ -57,8 +56,6 @@ pub(crate) struct FusedBarrier<'a, N: Node> {
     fuse: Fuse,
     // Of the node that is dropped.
     ending: &'a Ending,
-    // What it lets by, and what leaves by the node's lines.
-    let_by: &'a Sends,
     // How many sends were begun.
     sends: AtomicU64,
     // How many events had come before a send that went, at most.
@@ -73,7 +70,6 @@ impl<'a, N: Node> FusedBarrier<'a, N> {
         file: LogFile<MemoryDevice>,
         fuse: Fuse,
         ending: &'a Ending,
-        let_by: &'a Sends,
     ) -> FusedBarrier<'a, N> {
         FusedBarrier {
             alloc,
@@ -81,7 +77,6 @@ impl<'a, N: Node> FusedBarrier<'a, N> {
             inner: LogBarrier::new(alloc, shared, file),
             fuse,
             ending,
-            let_by,
             sends: AtomicU64::new(0),
             left: AtomicUsize::new(0),
         }
@@ -100,16 +95,11 @@ impl<'a, N: Node> FusedBarrier<'a, N> {
             return Err(Stop::Hangs);
         }
         kept.left = self.left.load(Ordering::SeqCst);
-        let FusedBarrier {
-            alloc,
-            inner,
-            let_by,
-            ..
-        } = self;
+        let FusedBarrier { alloc, inner, .. } = self;
         let Ok(file) = inner.into_file() else {
             return Err(Stop::Fell);
         };
-        if file.events() < kept.left || let_by.are_too_many() {
+        if file.events() < kept.left {
             return Err(Stop::LeftUnkept);
         }
         match bytes(alloc, file, !has_blown) {
@@ -147,7 +137,6 @@ impl<'a, N: Node> Barrier for FusedBarrier<'a, N> {
         if before < self.fuse.going {
             self.inner.reach(rt)?;
             self.left.fetch_max(came, Ordering::SeqCst);
-            self.let_by.allow();
             return Ok(());
         }
         if before == self.fuse.going && self.fuse.is_kept {

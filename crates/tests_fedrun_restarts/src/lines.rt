@@ -2,109 +2,20 @@
 use crossbeam_channel::{Receiver, Sender};
 use std::alloc::Global;
 use std::sync::Wait;
-use std::sync::atomic::{AtomicBool, AtomicU64, Ordering};
 use std::thread;
 use std::time::{Clock, Duration};
 use wires::{Work, WorkerResult};
 use wires_hosts::{Barrier, Heard, HeardTransport};
 use wires_transports::{
-    Accepted, Acceptor, Broken, Connection, CurrentConnections, Cut, Dial, Ending, MemoryCut,
-    MemoryTransport, Transport, pair,
+    Accepted, Acceptor, Connection, CurrentConnections, Cut, Dial, Ending, MemoryCut,
+    MemoryTransport, pair,
 };
 
 /// A run that takes longer doesn't come to its end, in ms.
 const LONGEST_MS: u64 = 10_000;
 
-/// How many sends a node's barrier has let by, and how many have left by its lines: never more.
-#[derive(Drop)]
-pub(crate) struct Sends {
-    let_by: AtomicU64,
-    left: AtomicU64,
-    are_too_many: AtomicBool,
-}
-
-impl Sends {
-    pub(crate) fn new() -> Sends {
-        Sends {
-            let_by: AtomicU64::new(0),
-            left: AtomicU64::new(0),
-            are_too_many: AtomicBool::new(false),
-        }
-    }
-
-    /// The barrier lets one more by.
-    pub(crate) fn allow(&self) {
-        self.let_by.fetch_add(1, Ordering::SeqCst);
-    }
-
-    // One more leaves.
-    fn leave(&self) {
-        let before = self.left.fetch_add(1, Ordering::SeqCst);
-        if before >= self.let_by.load(Ordering::SeqCst) {
-            self.are_too_many.store(true, Ordering::SeqCst);
-        }
-    }
-
-    /// Whether more left at some time than were let by.
-    pub(crate) fn are_too_many(&self) -> bool {
-        self.are_too_many.load(Ordering::SeqCst)
-    }
-}
-
-/// One direction of a connection, which notes what leaves by it.
-#[derive(Drop)]
-pub(crate) struct Noted<'a> {
-    inner: MemoryTransport,
-    sends: &'a Sends,
-}
-
-impl<'a> Transport for Noted<'a> {
-    ghost failures = { λ t. MemoryTransport.failures t.inner };
-
-    fn send<R: Wait>(&mut self, rt: &R, bytes: &[u8]) -> Result<(), Broken> {
-        self.sends.leave();
-        self.inner.send(rt, bytes)
-    }
-
-    fn recv<R: Wait>(&mut self, rt: &R, room: &mut [u8]) -> Result<usize, Broken> {
-        self.inner.recv(rt, room)
-    }
-
-    fn finish<R: Wait>(&mut self, rt: &R) {
-        self.inner.finish(rt);
-    }
-}
-
-/// A direction of a node's connection: its barrier is asked, and then what leaves is noted.
-pub(crate) type Own<'a, B> = HeardTransport<'a, Noted<'a>, B>;
-
-// A node's end of a connection.
-fn own<'a, B: Barrier>(
-    connection: Connection<MemoryTransport, MemoryCut>,
-    heard: &'a Heard,
-    barrier: &'a B,
-    sends: &'a Sends,
-) -> Connection<Own<'a, B>, MemoryCut> {
-    let Connection {
-        incoming,
-        outgoing,
-        cut,
-    } = connection;
-    let incoming = Noted {
-        inner: incoming,
-        sends,
-    };
-    let outgoing = Noted {
-        inner: outgoing,
-        sends,
-    };
-    let noted = Connection {
-        incoming,
-        outgoing,
-        cut,
-    };
-    HeardTransport::around(noted, heard, barrier)
-}
+/// An end of a node's connection.
+pub(crate) type Own<'a, B> = HeardTransport<'a, MemoryTransport, B>;
 
 /// A federate's connection, on its way to the coordinator.
 #[derive(Drop)]
@@ -120,18 +31,17 @@ pub(crate) struct MemoryDial<'a, B: Barrier> {
     pub to: Sender<Coming>,
     pub heard: &'a Heard,
     pub barrier: &'a B,
-    pub sends: &'a Sends,
 }
 
 impl<'a, B: Barrier> Dial<Own<'a, B>, MemoryCut> for MemoryDial<'a, B> {
     fn dial<R: Wait>(&self, rt: &R, alloc: Global) -> Option<Connection<Own<'a, B>, MemoryCut>> {
-        let (connection, other) = pair(alloc).ok()?;
+        let (own, other) = pair(alloc).ok()?;
         let coming = Coming {
             federate: self.federate,
             connection: other,
         };
         self.to.send(rt, coming).ok()?;
-        Some(own(connection, self.heard, self.barrier, self.sends))
+        Some(HeardTransport::around(own, self.heard, self.barrier))
     }
 }
 
@@ -142,7 +52,6 @@ pub(crate) struct MemoryAcceptor<'a, B: Barrier> {
     pub current: CurrentConnections<Own<'a, B>, MemoryCut>,
     pub heard: &'a Heard,
     pub barrier: &'a B,
-    pub sends: &'a Sends,
 }
 
 impl<'a, B: Barrier> Acceptor for MemoryAcceptor<'a, B> {
@@ -152,7 +61,6 @@ impl<'a, B: Barrier> Acceptor for MemoryAcceptor<'a, B> {
             mut current,
             heard,
             barrier,
-            sends,
         } = self;
         for _ in rt.forever() {
             if ending.is_set() {
@@ -164,7 +72,7 @@ impl<'a, B: Barrier> Acceptor for MemoryAcceptor<'a, B> {
                     connection,
                 } = came;
                 let accepted = Accepted {
-                    connection: own(connection, heard, barrier, sends),
+                    connection: HeardTransport::around(connection, heard, barrier),
                     first: Vec::new(alloc),
                 };
                 current.hand_on(rt, federate, accepted);
