@@ -80,9 +80,9 @@ nothing_behind before most (suc j) few = front_short before [] (lit< tt)
 -- a torn tail
 pub torn_tail : (before : ℕ) (tail : List ℕ) → IsTornTail before tail → front_of before tail ≡ torn
 torn_tail before tail (no_size few) = front_short before tail few
-torn_tail before tail (bad_size wrong few) = elim (cases_lt (length tail) 8) [
+torn_tail before tail (bad_size wrong few none) = elim (cases_lt (length tail) 8) [
   | inl short ↦ front_short before tail short
-  | inr long ↦ front_wrong before tail long wrong few
+  | inr long ↦ front_wrong before tail long wrong few none
 ]
 torn_tail before tail (bad_block size rest e some fits few apart) =
     ap (λ (b : List ℕ). front_of before b) e ∙ spelled_size before size rest some fits ∙ elim (cases_lt (length rest) (size + 8)) [

@@ -3,7 +3,7 @@ use Rattle.std.proofs.Common.{◌≡◌, ℕ, ◌+◌, ◌-◌, ◌<◌, ◌≤�
 use Rattle.std.specs.Prelude.{◌≢◌, Result, IfOk, IfErr}
 use Rattle.std.specs.List.{AllByRecursion}
 use Rattle.std.specs.Prelude.{if◌then◌else◌}
-use Rattle.std.proofs.lemmas.Bool.{cases_lt, lt-ltb, le-ltb, ne_eqb, and_left, and_right}
+use Rattle.std.proofs.lemmas.Bool.{cases_Bool, cases_lt, lt-ltb, le-ltb, ne_eqb, false≢true, and_left, and_right}
 use Rattle.std.proofs.Math.Bool.{or_comm}
 use Rattle.std.proofs.lemmas.List.{length-append, length-drop, drop-drop, take_at, drop_at}
 use Rattle.byteorder.specs.Endian.{big_bytes, big_number}
@@ -24,12 +24,13 @@ use Rattle.files_logs.specs.Sums.{sum_of, size_check, block_sum}
 use Rattle.files_logs.specs.Items.{item_bytes, items_bytes, IsItem, events_of, is_told_in, item_part}
 use Rattle.files_logs.specs.Blocks.{size_bytes, block_bytes, IsSayable, IsBlock, blocks_bytes, sum_behind, events_in, is_told_by}
 use Rattle.files_logs.specs.Log.{head_bytes, head_sum, summed_head, log_bytes, ended_bytes, last_sum, IsLog, log_of}
-use Rattle.files_logs.specs.Front.{Front, whole, torn, ending, damaged, is_size, front_behind, end_behind, front_of}
+use Rattle.files_logs.specs.Front.{Front, whole, torn, ending, damaged, is_size, begins_block, has_block, front_behind, end_behind, front_of}
 use Rattle.files_logs.specs.Reading.{IsBegun, IsRead, unended, ended, BeginsHead, IsContentFault, IsFaultBehind}
 use Rattle.files_logs.specs.Parts.{IsStop, IsStopBehind, IsEventFault, IsItemFault, IsSayingFault, IsAdded, AreRead, IsBlocksFault, IsEnd, IsEnding, IsNoEnding}
-use Rattle.files_logs.proofs.Sizes.{sized_length, size_length, block_length, block_apart}
+use Rattle.files_logs.proofs.Sizes.{sized_length, size_length, is_right, block_length, block_apart}
 use Rattle.files_logs.proofs.Saying.{as_item, some_bytes}
-use Rattle.files_logs.proofs.Fronts.{spelled_size, spelled_end, end_long, end_short, front_wrong, front_damaged, block_good, block_last, block_bad}
+use Rattle.files_logs.proofs.Fronts.{spelled_size, spelled_end, end_long, end_short, front_wrong, front_damaged, front_spoilt, block_good, block_last, block_bad}
+use Rattle.files_logs.proofs.Beginnings.{some_begins}
 use Rattle.files_logs.proofs.Headed.{head_length, summed_length}
 use Rattle.files_logs.proofs.OneLog.{begins_head}
 use Rattle.files_logs.proofs.Whole.{more_bytes, more_sum, appended_events, appended_told, all_appended}
@@ -66,15 +67,36 @@ no_size before size check bytes between e d f h = elim (cases_lt 16_777_216 size
       and_right _ _ (ne_eqb _ _ apart)
 ]
 
-pub unsized_stop : (before : ℕ) (bytes : List ℕ) (stop : Stop) → 8 ≤ length bytes → is_size before bytes ≡ false
-    → stop ≡ (if ltb 16_777_232 (length bytes) then stops.Damaged else stops.Torn) → IsStop before bytes stop
-unsized_stop before bytes stop many wrong e = elim (cases_lt 16_777_232 (length bytes)) [
+-- whether it is one: what is answered of its parts
+is_sized : (answer : Bool) (before size check : ℕ) (bytes between rest : List ℕ) → size ≡ big_number 4 bytes → between ≡ drop 4 bytes → check ≡ big_number 4 between
+    → bytes ≡ big_bytes 4 size ++ between → between ≡ big_bytes 4 check ++ rest → (answer ≡ true → (size ≤ 16_777_216) × (check ≡ size_check before size))
+    → ((size ≤ 16_777_216) × (check ≡ size_check before size) → answer ≡ true) → answer ≡ is_size before bytes
+is_sized true before size check bytes between rest e d f p q forth back =
+    let right = forth refl in
+    sym (ap (λ (b : List ℕ). is_size before b) (sized before size check bytes between rest p q right.1) ∙ is_right before size rest right.0)
+is_sized false before size check bytes between rest e d f p q forth back = sym (no_size before size check bytes between e d f (λ both. false≢true (back both)))
+
+-- the same behind a sum
+pub begins_at : (answer : Bool) (sum size check : ℕ) (bytes behind between rest : List ℕ) → 16 ≤ length bytes → sum ≡ big_number 8 bytes → behind ≡ drop 8 bytes → size ≡ big_number 4 behind
+    → between ≡ drop 4 behind → check ≡ big_number 4 between → behind ≡ big_bytes 4 size ++ between → between ≡ big_bytes 4 check ++ rest
+    → (answer ≡ true → (size ≤ 16_777_216) × (check ≡ size_check sum size)) → ((size ≤ 16_777_216) × (check ≡ size_check sum size) → answer ≡ true) → answer ≡ begins_block bytes
+begins_at answer sum size check bytes behind between rest many s b e d f p q forth back =
+    is_sized answer sum size check behind between rest e d f p q forth back ∙ some_begins sum bytes behind many s b
+
+pub unsized_stop : (before : ℕ) (bytes behind : List ℕ) (stop : Stop) → 8 ≤ length bytes → is_size before bytes ≡ false → behind ≡ drop 8 bytes
+    → stop ≡ (if ltb 16_777_232 (length bytes) then stops.Damaged else if has_block behind then stops.Damaged else stops.Torn) → IsStop before bytes stop
+unsized_stop before bytes behind stop many wrong back e = elim (cases_lt 16_777_232 (length bytes)) [
   | inl past ↦
       let test : ltb 16_777_232 (length bytes) ≡ true = lt-ltb _ _ past in
       subst (IsStop before bytes) (sym (rw test at e)) (front_damaged before bytes many wrong past)
   | inr few ↦
       let test : ltb 16_777_232 (length bytes) ≡ false = le-ltb _ _ few in
-      subst (IsStop before bytes) (sym (rw test at e)) (front_wrong before bytes many wrong few)
+      let shorter : stop ≡ (if has_block behind then stops.Damaged else stops.Torn) = rw test at e in
+      let among : has_block (drop 8 bytes) ≡ has_block behind = ap has_block (sym back) in
+      elim (cases_Bool (has_block behind)) [
+        | inl some ↦ subst (IsStop before bytes) (sym (rw some at shorter)) (front_spoilt before bytes many wrong (among ∙ some))
+        | inr none ↦ subst (IsStop before bytes) (sym (rw none at shorter)) (front_wrong before bytes many wrong few (among ∙ none))
+      ]
 ]
 
 -- the size 0

@@ -14,7 +14,7 @@ use Rattle.files_logs.specs.Sums.{block_sum}
 use Rattle.files_logs.specs.Items.{items_bytes, IsItem}
 use Rattle.files_logs.specs.Blocks.{size_bytes, block_bytes, IsSayable}
 use Rattle.files_logs.specs.Log.{end_bytes}
-use Rattle.files_logs.specs.Front.{Front, whole, torn, ending, damaged, is_size, front_behind, end_behind, front_of}
+use Rattle.files_logs.specs.Front.{Front, whole, torn, ending, damaged, is_size, has_block, unsized, front_behind, end_behind, front_of}
 use Rattle.files_logs.proofs.Sizes.{drop_number, number_length, block_sum_fits, size_length, sized_length, behind_size, size_read, is_right, block_length, block_apart}
 
 -- ---- what it is, case by case
@@ -25,19 +25,41 @@ front_short before bytes few =
     let short : ltb (length bytes) 8 ≡ true = lt-ltb _ _ few in
     rw short refl
 
-pub front_wrong : (before : ℕ) (bytes : List ℕ) → 8 ≤ length bytes → is_size before bytes ≡ false → length bytes ≤ 16_777_232 → front_of before bytes ≡ torn
+front_unsized : (before : ℕ) (bytes : List ℕ) → 8 ≤ length bytes → is_size before bytes ≡ false → front_of before bytes ≡ unsized bytes
 unfolding front_of
-front_wrong before bytes many wrong few =
+front_unsized before bytes many wrong =
     let long : ltb (length bytes) 8 ≡ false = le-ltb _ _ many in
+    rw (long, wrong) refl
+
+unsized_torn : (bytes : List ℕ) → length bytes ≤ 16_777_232 → has_block (drop 8 bytes) ≡ false → unsized bytes ≡ torn
+unfolding unsized
+unsized_torn bytes few none =
     let tail : ltb 16_777_232 (length bytes) ≡ false = le-ltb _ _ few in
-    rw (long, wrong, tail) refl
+    rw (tail, none) refl
+
+unsized_long : (bytes : List ℕ) → 16_777_232 < length bytes → unsized bytes ≡ damaged
+unfolding unsized
+unsized_long bytes past =
+    let tail : ltb 16_777_232 (length bytes) ≡ true = lt-ltb _ _ past in
+    rw tail refl
+
+unsized_spoilt : (bytes : List ℕ) → length bytes ≤ 16_777_232 → has_block (drop 8 bytes) ≡ true → unsized bytes ≡ damaged
+unfolding unsized
+unsized_spoilt bytes few some =
+    let tail : ltb 16_777_232 (length bytes) ≡ false = le-ltb _ _ few in
+    rw (tail, some) refl
+
+pub front_wrong : (before : ℕ) (bytes : List ℕ) → 8 ≤ length bytes → is_size before bytes ≡ false → length bytes ≤ 16_777_232 → has_block (drop 8 bytes) ≡ false → front_of before bytes ≡ torn
+front_wrong before bytes many wrong few none = front_unsized before bytes many wrong ∙ unsized_torn bytes few none
 
 pub front_damaged : (before : ℕ) (bytes : List ℕ) → 8 ≤ length bytes → is_size before bytes ≡ false → 16_777_232 < length bytes → front_of before bytes ≡ damaged
-unfolding front_of
-front_damaged before bytes many wrong past =
-    let long : ltb (length bytes) 8 ≡ false = le-ltb _ _ many in
-    let tail : ltb 16_777_232 (length bytes) ≡ true = lt-ltb _ _ past in
-    rw (long, wrong, tail) refl
+front_damaged before bytes many wrong past = front_unsized before bytes many wrong ∙ unsized_long bytes past
+
+pub front_spoilt : (before : ℕ) (bytes : List ℕ) → 8 ≤ length bytes → is_size before bytes ≡ false → has_block (drop 8 bytes) ≡ true → front_of before bytes ≡ damaged
+front_spoilt before bytes many wrong some = elim (cases_lt 16_777_232 (length bytes)) [
+  | inl past ↦ front_damaged before bytes many wrong past
+  | inr few ↦ front_unsized before bytes many wrong ∙ unsized_spoilt bytes few some
+]
 
 pub front_end : (before : ℕ) (bytes : List ℕ) → 8 ≤ length bytes → is_size before bytes ≡ true → big_number 4 bytes ≡ 0 → front_of before bytes ≡ end_behind (drop 8 bytes)
 unfolding front_of

@@ -5,6 +5,8 @@ pub mod Sizes
 pub mod Saying
 -- what stands at the front of bytes behind a sum
 pub mod Fronts
+-- blocks that begin behind the sum of another one
+pub mod Beginnings
 -- logs that are cut, and torn tails
 pub mod Cut
 -- heads

@@ -1,25 +1,27 @@
 -- Whole logs: written and read, cut, torn, and appended to.
-use Rattle.std.proofs.Common.{◌≡◌, ℕ, zero, suc, ◌+◌, ◌-◌, ◌<◌, ◌≤◌, Bool, true, false, ◌||◌, List, [], ◌∷◌, ◌++◌, length, take, Option, refl, sym, ap, subst, ◌∙◌, append_assoc, append-nil, arith, lit<}
+use Rattle.std.proofs.Common.{◌≡◌, ℕ, zero, suc, ◌+◌, ◌-◌, ◌^◌, ◌<◌, ◌≤◌, Bool, true, false, ◌||◌, List, [], ◌∷◌, ◌++◌, length, take, Option, refl, sym, ap, subst, ◌∙◌, append_assoc, append-nil, arith, lit<}
 use Rattle.std.specs.List.{AllByRecursion}
 use Rattle.std.proofs.lemmas.List.{length-append, length-take}
 use Rattle.std.proofs.Math.Bool.{or_assoc}
 use Rattle.std.proofs.Math.Seq.{take-append-add}
+use Rattle.byteorder.specs.Endian.{big_bytes}
 use Rattle.sha2.specs.Sha256.{sha256}
 use Rattle.sha2.proofs.Facts256.{length-sha256}
 use Rattle.node.specs.declared.event.Event.{Event}
 use Rattle.files_reports.specs.declared.file_digests.FileDigests.{FileDigests}
 use Rattle.files_logs.specs.declared.item.Item.{Item}
 use Rattle.files_logs.specs.declared.log_head.LogHead.{LogHead}
-use Rattle.files_logs.specs.declared.log_fault.LogFault.TheVariants.{NoLog}
+use Rattle.files_logs.specs.declared.log_fault.LogFault.TheVariants.{NoLog, Damaged}
 use Rattle.files_logs.specs.Sums.{block_sum}
 use Rattle.files_logs.specs.Items.{items_bytes, events_of, is_told_in}
 use Rattle.files_logs.specs.Blocks.{size_bytes, block_bytes, IsBlock, blocks_bytes, sum_behind, events_in, is_told_by}
 use Rattle.files_logs.specs.Log.{head_bytes, head_sum, log_bytes, ended_bytes, end_bytes, last_sum, IsLog, log_of}
-use Rattle.files_logs.specs.Front.{torn, front_of}
-use Rattle.files_logs.specs.Reading.{IsBegun, IsRead, unended, ended, IsLogFault, BeginsHead}
+use Rattle.files_logs.specs.Front.{torn, is_size, front_of}
+use Rattle.files_logs.specs.Reading.{IsBegun, IsRead, unended, ended, IsFaultBehind, IsLogFault, BeginsHead}
 use Rattle.files_logs.specs.Cuts.{whole_within, IsTornTail, front_log}
 use Rattle.files_logs.proofs.Sizes.{size_length}
 use Rattle.files_logs.proofs.Fronts.{front_short, end_cut}
+use Rattle.files_logs.proofs.Beginnings.{size_spoilt}
 use Rattle.files_logs.proofs.Cut.{IsCut, cut_blocks, nothing_behind, torn_tail}
 use Rattle.files_logs.proofs.Headed.{head_length, long_enough}
 
@@ -28,6 +30,12 @@ use Rattle.files_logs.proofs.Headed.{head_length, long_enough}
 pub torn_dropped : (head : LogHead) (blocks : List (List Item)) (tail : List ℕ) → IsLog head blocks → IsTornTail (last_sum head blocks) tail
     → IsRead head (log_bytes head blocks ++ tail) (log_of head blocks (length (log_bytes head blocks)) false)
 torn_dropped head blocks tail h t = unended blocks tail (record { is_log = h; begins = refl }) (torn_tail (last_sum head blocks) tail t) refl
+
+-- but not where a size was changed before the last block
+pub size_changed : (head : LogHead) (blocks : List (List Item)) (tail size said behind : List ℕ) (sum next : ℕ) → IsLog head blocks → is_size (last_sum head blocks) tail ≡ false
+    → tail ≡ size ++ (said ++ (big_bytes 8 sum ++ (size_bytes sum next ++ behind))) → length size ≡ 8 → sum < 2 ^ 64 → next ≤ 16_777_216 → IsFaultBehind head (log_bytes head blocks ++ tail) Damaged
+size_changed head blocks tail size said behind sum next h wrong e eight fits few =
+    (blocks, tail, record { is_log = h; begins = refl }, size_spoilt (last_sum head blocks) tail size said behind sum next wrong e eight fits few)
 
 pub log_read : (head : LogHead) (blocks : List (List Item)) → IsLog head blocks → IsRead head (log_bytes head blocks) (log_of head blocks (length (log_bytes head blocks)) false)
 log_read head blocks h =

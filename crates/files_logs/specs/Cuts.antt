@@ -11,7 +11,7 @@ use Rattle.files_logs.specs.Sums.{block_sum}
 use Rattle.files_logs.specs.Items.{items_bytes}
 use Rattle.files_logs.specs.Blocks.{size_bytes}
 use Rattle.files_logs.specs.Log.{log_bytes, log_of}
-use Rattle.files_logs.specs.Front.{is_size}
+use Rattle.files_logs.specs.Front.{is_size, has_block}
 
 -- how many bytes the block that says this has
 abbrev pub block_size : List Item → ℕ
@@ -27,8 +27,9 @@ whole_within (items ∷ blocks) k =
 pub data IsTornTail (before : ℕ) (tail : List ℕ) : Type 0 where
   -- there isn't a size;
   no_size : length tail < SIZE_SIZE → IsTornTail before tail
-  -- its size isn't right, and it isn't longer than a block;
-  bad_size : is_size before tail ≡ false → length tail ≤ LONGEST_BLOCK → IsTornTail before tail
+  -- its size isn't right, it isn't longer than a block, and no block ends in it behind which another one begins;
+  bad_size : is_size before tail ≡ false → length tail ≤ LONGEST_BLOCK → has_block (drop SIZE_SIZE tail) ≡ false
+      → IsTornTail before tail
   -- its size is right, and it is shorter than such a block, or as long, with another sum;
   bad_block : (size : ℕ) → (rest : List ℕ) → tail ≡ size_bytes before size ++ rest → 0 < size → size ≤ MOST_SAID
       → length rest ≤ size + SUM_SIZE

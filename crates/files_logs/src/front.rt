@@ -9,7 +9,7 @@ ghost use Rattle.files_logs.specs.Front.{front_of, front_behind};
 ghost use Rattle.files_logs.specs.Front as fronts;
 ghost use Rattle.files_logs.specs.Parts.{IsStop, IsStopBehind};
 
-use crate::layout::{DIGEST_SIZE, LONGEST_BLOCK, MOST_SAID, SIZE_SIZE, SUM_SIZE};
+use crate::layout::{BEGIN_SIZE, DIGEST_SIZE, LONGEST_BLOCK, MOST_SAID, SIZE_SIZE, SUM_SIZE};
 use crate::numbers::{take_eight, take_four};
 use crate::sums::{block_sum, size_check};
 
@@ -38,7 +38,7 @@ pub fn block_at(before: u64, bytes: &[u8]) -> Result<(&[u8], &[u8], u64), Stop>
     let (size, behind) = take_four(bytes);
     let (check, behind) = take_four(behind);
     if !is_size(before, size, check) {
-        return Err(unsized_tail(bytes.len()));
+        return Err(unsized_tail(bytes.len(), behind));
     }
     if size == 0 {
         return Err(end_behind(behind));
@@ -53,15 +53,47 @@ fn is_size(before: u64, size: u32, check: u32) -> bool
     size as usize <= MOST_SAID && check == size_check(before, size)
 }
 
-// What bytes are that no size begins.
-fn unsized_tail(count: usize) -> Stop
-    ensures { result ≡ (if nat_lt LONGEST_BLOCK count then Stop.Damaged else Stop.Torn) }
+// What so many bytes are that begin with no size, behind which these stand.
+fn unsized_tail(count: usize, behind: &[u8]) -> Stop
+    ensures { result ≡ (if nat_lt LONGEST_BLOCK count then Stop.Damaged
+        else if fronts.has_block behind.now then Stop.Damaged else Stop.Torn) }
 {
     if count > LONGEST_BLOCK {
+        return Stop::Damaged;
+    }
+    if has_block(behind) {
         Stop::Damaged
     } else {
         Stop::Torn
     }
+}
+
+// Whether a block or the end begins somewhere behind the sum of another block.
+fn has_block(bytes: &[u8]) -> bool
+    ensures { result ≡ fronts.has_block bytes.now }
+{
+    let mut rest = bytes;
+    while !rest.is_empty() {
+        if begins_block(rest) {
+            return true;
+        }
+        let (_, behind) = rest.split_at(1);
+        rest = behind;
+    }
+    false
+}
+
+// Whether a sum stands first, and behind it a size with its check.
+fn begins_block(bytes: &[u8]) -> bool
+    ensures { result ≡ fronts.begins_block bytes.now }
+{
+    if bytes.len() < BEGIN_SIZE {
+        return false;
+    }
+    let (sum, behind) = take_eight(bytes);
+    let (size, behind) = take_four(behind);
+    let (check, _) = take_four(behind);
+    is_size(sum, size, check)
 }
 
 // What stands behind the size 0.

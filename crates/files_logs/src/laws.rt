@@ -1,19 +1,21 @@
 //! What the definitions of logs keep. Each function's contract is a law; it does nothing.
 
 ghost use Rattle.std.specs.Prelude.{◌≡◌, ◌-◌, ◌<◌, ◌≤◌, ◌||◌, ◌++◌, ℕ, Bool, List, [], Option, length, take};
-ghost use Rattle.std.specs.Prelude.{true, false};
+ghost use Rattle.std.specs.Prelude.{◌^◌, true, false};
 ghost use Rattle.std.specs.List.{AllByRecursion};
+ghost use Rattle.byteorder.specs.Endian.{big_bytes};
 ghost use Rattle.node.specs.declared.event.Event.{Event};
 ghost use Rattle.files_reports.specs.declared.file_digests.FileDigests.{FileDigests};
-ghost use Rattle.files_logs.specs.declared.layout.TheConstants.{HEAD_SIZE};
+ghost use Rattle.files_logs.specs.declared.layout.TheConstants.{HEAD_SIZE, SIZE_SIZE, SUM_SIZE, MOST_SAID};
 ghost use Rattle.files_logs.specs.declared.item.Item.{Item};
 ghost use Rattle.files_logs.specs.declared.log_head.LogHead.{LogHead};
 ghost use Rattle.files_logs.specs.declared.log.Log.{Log};
-ghost use Rattle.files_logs.specs.declared.log_fault.LogFault.TheVariants.{NoLog};
-ghost use Rattle.files_logs.specs.Blocks.{IsBlock, blocks_bytes, sum_behind, events_in, is_told_by};
+ghost use Rattle.files_logs.specs.declared.log_fault.LogFault.TheVariants.{NoLog, Damaged};
+ghost use Rattle.files_logs.specs.Blocks.{size_bytes, IsBlock, blocks_bytes, sum_behind, events_in, is_told_by};
 ghost use Rattle.files_logs.specs.Log.{head_bytes, head_sum, IsHead, log_bytes, end_bytes, ended_bytes, last_sum};
 ghost use Rattle.files_logs.specs.Log.{IsLog, log_of};
-ghost use Rattle.files_logs.specs.Reading.{IsRead, IsWholeLog, IsLogRead, IsLogFault};
+ghost use Rattle.files_logs.specs.Front.{is_size};
+ghost use Rattle.files_logs.specs.Reading.{IsRead, IsWholeLog, IsLogRead, IsFaultBehind, IsLogFault};
 ghost use Rattle.files_logs.specs.Writing.{blocks_for};
 ghost use Rattle.files_logs.specs.Cuts.{whole_within, IsTornTail, front_log};
 
@@ -48,6 +50,16 @@ pub fn torn_tails_are_dropped()
     ensures { (head : LogHead) (blocks : List (List Item)) (tail : List ℕ) → IsLog head blocks
         → IsTornTail (last_sum head blocks) tail
         → IsRead head (log_bytes head blocks ++ tail) (log_of head blocks (length (log_bytes head blocks)) false) }
+{}
+
+/// Where a size or its check was changed, and another block or the end stands behind its block, the log is damaged, and
+/// nothing of it is dropped.
+pub fn changed_sizes_are_seen()
+    ensures { (head : LogHead) (blocks : List (List Item)) (tail size said behind : List ℕ) (sum next : ℕ)
+        → IsLog head blocks → is_size (last_sum head blocks) tail ≡ false
+        → tail ≡ size ++ (said ++ (big_bytes SUM_SIZE sum ++ (size_bytes sum next ++ behind)))
+        → length size ≡ SIZE_SIZE → sum < 2 ^ 64 → next ≤ MOST_SAID
+        → IsFaultBehind head (log_bytes head blocks ++ tail) Damaged }
 {}
 
 /// Blocks that are appended behind the last sum of a log make the log of all of them, and their events are behind those

@@ -12,6 +12,9 @@ pub const SUM_SIZE: usize = 8;
 /// Bytes of a block's size and of the check of it.
 pub const SIZE_SIZE: usize = 8;
 
+/// Bytes of a sum, and of a size with its check behind it.
+pub const BEGIN_SIZE: usize = SUM_SIZE + SIZE_SIZE;
+
 /// The most bytes that a block says: 16 MiB.
 pub const MOST_SAID: usize = 1 << 24;
 

@@ -41,7 +41,7 @@ enum Change {
 /// file has then; or why it doesn't begin, and the file is as it was.
 type Expected = Result<(usize, bool, bool, usize), NotKept>;
 
-const CASES: [(Change, Expected); 22] = [
+const CASES: [(Change, Expected); 26] = [
     (Change::Cut(ENDED), Ok((3, true, true, ENDED))),
     (Change::Cut(ENDED - 1), Ok((3, true, false, TOLD_END))),
     (Change::Cut(TOLD_END + 1), Ok((3, true, false, TOLD_END))),
@@ -63,6 +63,22 @@ const CASES: [(Change, Expected); 22] = [
     (
         Change::Changed(HEAD_END, 20),
         Ok((0, false, false, HEAD_END)),
+    ),
+    (
+        Change::Changed(TOLD_END, SECOND_END),
+        Ok((3, false, false, SECOND_END)),
+    ),
+    (
+        Change::Changed(ENDED, SECOND_END),
+        Err(NotKept::Log(LogFault::Damaged)),
+    ),
+    (
+        Change::Changed(TOLD_END, HEAD_END),
+        Err(NotKept::Log(LogFault::Damaged)),
+    ),
+    (
+        Change::Changed(TOLD_END, FIRST_END + 4),
+        Err(NotKept::Log(LogFault::Damaged)),
     ),
     (
         Change::Changed(TOLD_END, 92),

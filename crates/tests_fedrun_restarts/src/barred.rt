@@ -4,6 +4,7 @@ use crate::fuse::{ENDLESS, Fuse, FusedBarrier, LogLeft};
 use crate::given::Given;
 use crate::life::hand_in_again;
 use crate::lines::{Coming, EndWithRun, MemoryAcceptor, MemoryDial};
+use crate::noted::Sends;
 use crate::stop::Stop;
 use coordinator::Coordinator;
 use crossbeam_channel::{Receiver, Sender};
@@ -14,6 +15,7 @@ use files_keeping::{MemoryDevice, read_locked};
 use files_logs::LogHead;
 use node::{Node, NodeId};
 use std::alloc::Global;
+use std::sync::Arc;
 use wires::{
     CoordinatorLines, FederateLines, Runtime, Terms, channels, run_coordinator, run_federate,
 };
@@ -87,9 +89,15 @@ fn federate_at<R: Runtime>(
 ) -> Result<bool, Stop> {
     let (file, is_told) = begun(rt, alloc, head, shared, kept)?;
     let ending = Ending::new();
-    let barrier = FusedBarrier::new(alloc, shared, file, fuse, &ending);
+    let Some(sends) = Sends::none(alloc) else {
+        return Err(Stop::Memory);
+    };
+    let barrier = FusedBarrier::new(alloc, shared, file, fuse, &sends, &ending);
     // One whose log says that the run is finished asks nobody.
-    let has_run = is_told || joins(rt, alloc, number, to, finished, shared, &barrier, &ending);
+    let has_run = is_told
+        || joins(
+            rt, alloc, number, to, finished, shared, &barrier, &sends, &ending,
+        );
     barrier.leave(has_run && finished.is_set(), kept)
 }
 
@@ -103,6 +111,7 @@ fn joins<R: Runtime, B: Barrier + Sync>(
     finished: &Ending,
     shared: &Shared<Federate<'_>>,
     barrier: &B,
+    sends: &Arc<Sends>,
     ending: &Ending,
 ) -> bool {
     let Ok(heard) = Heard::new(alloc, 0) else {
@@ -118,6 +127,7 @@ fn joins<R: Runtime, B: Barrier + Sync>(
             to,
             heard: &heard,
             barrier,
+            sends,
         },
         terms: TERMS,
     };
@@ -174,9 +184,12 @@ fn coordinator_at<R: Runtime>(
 ) -> Result<bool, Stop> {
     let (file, _) = begun(rt, alloc, head, shared, kept)?;
     let ending = Ending::new();
-    let barrier = FusedBarrier::new(alloc, shared, file, fuse, &ending);
+    let Some(sends) = Sends::none(alloc) else {
+        return Err(Stop::Memory);
+    };
+    let barrier = FusedBarrier::new(alloc, shared, file, fuse, &sends, &ending);
     let has_run = coordinates(
-        rt, alloc, count, coming, finished, shared, &barrier, &ending,
+        rt, alloc, count, coming, finished, shared, &barrier, &sends, &ending,
     );
     let is_over = has_run && shared.finished(rt) && barrier.tell(rt).is_ok();
     if is_over {
@@ -194,6 +207,7 @@ fn coordinates<R: Runtime, B: Barrier + Sync>(
     finished: &Ending,
     shared: &Shared<Coordinator<'_>>,
     barrier: &B,
+    sends: &Arc<Sends>,
     ending: &Ending,
 ) -> bool {
     if shared.finished(rt) {
@@ -216,6 +230,7 @@ fn coordinates<R: Runtime, B: Barrier + Sync>(
             current,
             heard: &heard,
             barrier,
+            sends,
         },
     };
     let watcher = EndWithRun {

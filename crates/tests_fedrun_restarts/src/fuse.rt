@@ -1,4 +1,5 @@
 //! The barrier of a node in threads that is dropped at one of its sends.
+use crate::noted::Sends;
 use crate::stop::Stop;
 use desk::Shared;
 use fedrun_logs::{LogBarrier, LogFile};
@@ -6,8 +7,8 @@ use files_keeping::MemoryDevice;
 use node::Node;
 use node_journal::Journal;
 use std::alloc::Global;
-use std::sync::Wait;
 use std::sync::atomic::{AtomicU64, AtomicUsize, Ordering};
+use std::sync::{Arc, Wait};
 use wires_hosts::{Barrier, Unkept};
 use wires_transports::Ending;
 
@@ -57,7 +58,9 @@ pub(crate) struct FusedBarrier<'a, N: Node> {
     // Of the node that is dropped.
     ending: &'a Ending,
     // How many sends were begun.
-    sends: AtomicU64,
+    begun: AtomicU64,
+    // Which of them left.
+    sends: &'a Arc<Sends>,
     // How many events had come before a send that went, at most.
     left: AtomicUsize,
 }
@@ -69,6 +72,7 @@ impl<'a, N: Node> FusedBarrier<'a, N> {
         shared: &'a Shared<N>,
         file: LogFile<MemoryDevice>,
         fuse: Fuse,
+        sends: &'a Arc<Sends>,
         ending: &'a Ending,
     ) -> FusedBarrier<'a, N> {
         FusedBarrier {
@@ -77,14 +81,15 @@ impl<'a, N: Node> FusedBarrier<'a, N> {
             inner: LogBarrier::new(alloc, shared, file),
             fuse,
             ending,
-            sends: AtomicU64::new(0),
+            begun: AtomicU64::new(0),
+            sends,
             left: AtomicUsize::new(0),
         }
     }
 
     /// Whether the node is dropped.
     pub(crate) fn has_blown(&self) -> bool {
-        self.sends.load(Ordering::SeqCst) > self.fuse.going
+        self.begun.load(Ordering::SeqCst) > self.fuse.going
     }
 
     /// What stays of the node, which doesn't run any more: its log as it is where it was dropped, and else with its
@@ -93,6 +98,9 @@ impl<'a, N: Node> FusedBarrier<'a, N> {
         let has_blown = self.has_blown();
         if !has_blown && !is_over {
             return Err(Stop::Hangs);
+        }
+        if !self.sends.are_those_let_by() {
+            return Err(Stop::LeftUnasked);
         }
         kept.left = self.left.load(Ordering::SeqCst);
         let FusedBarrier { alloc, inner, .. } = self;
@@ -132,11 +140,12 @@ fn bytes(alloc: Global, file: LogFile<MemoryDevice>, ends: bool) -> Option<Vec<u
 
 impl<'a, N: Node> Barrier for FusedBarrier<'a, N> {
     fn reach<R: Wait>(&self, rt: &R) -> Result<(), Unkept> {
-        let before = self.sends.fetch_add(1, Ordering::SeqCst);
+        let before = self.begun.fetch_add(1, Ordering::SeqCst);
         let came = self.came(rt);
         if before < self.fuse.going {
             self.inner.reach(rt)?;
             self.left.fetch_max(came, Ordering::SeqCst);
+            self.sends.let_by();
             return Ok(());
         }
         if before == self.fuse.going && self.fuse.is_kept {

@@ -30,6 +30,8 @@ mod life;
 #[cfg(test)]
 mod lines;
 #[cfg(test)]
+mod noted;
+#[cfg(test)]
 mod posts;
 #[cfg(test)]
 mod stop;

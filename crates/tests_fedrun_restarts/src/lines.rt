@@ -1,7 +1,8 @@
 //! How nodes in threads are connected: over memory, behind their barriers.
+use crate::noted::{NotedTransport, Sends};
 use crossbeam_channel::{Receiver, Sender};
 use std::alloc::Global;
-use std::sync::Wait;
+use std::sync::{Arc, Wait};
 use std::thread;
 use std::time::{Clock, Duration};
 use wires::{Work, WorkerResult};
@@ -14,8 +15,8 @@ use wires_transports::{
 /// A run that takes longer doesn't come to its end, in ms.
 const LONGEST_MS: u64 = 10_000;
 
-/// An end of a node's connection.
-pub(crate) type Own<'a, B> = HeardTransport<'a, MemoryTransport, B>;
+/// An end of a node's connection, behind its barrier.
+pub(crate) type Own<'a, B> = HeardTransport<'a, NotedTransport, B>;
 
 /// A federate's connection, on its way to the coordinator.
 #[derive(Drop)]
@@ -31,11 +32,13 @@ pub(crate) struct MemoryDial<'a, B: Barrier> {
     pub to: Sender<Coming>,
     pub heard: &'a Heard,
     pub barrier: &'a B,
+    pub sends: &'a Arc<Sends>,
 }
 
 impl<'a, B: Barrier> Dial<Own<'a, B>, MemoryCut> for MemoryDial<'a, B> {
     fn dial<R: Wait>(&self, rt: &R, alloc: Global) -> Option<Connection<Own<'a, B>, MemoryCut>> {
         let (own, other) = pair(alloc).ok()?;
+        let own = NotedTransport::around(own, self.sends)?;
         let coming = Coming {
             federate: self.federate,
             connection: other,
@@ -52,6 +55,7 @@ pub(crate) struct MemoryAcceptor<'a, B: Barrier> {
     pub current: CurrentConnections<Own<'a, B>, MemoryCut>,
     pub heard: &'a Heard,
     pub barrier: &'a B,
+    pub sends: &'a Arc<Sends>,
 }
 
 impl<'a, B: Barrier> Acceptor for MemoryAcceptor<'a, B> {
@@ -61,6 +65,7 @@ impl<'a, B: Barrier> Acceptor for MemoryAcceptor<'a, B> {
             mut current,
             heard,
             barrier,
+            sends,
         } = self;
         for _ in rt.forever() {
             if ending.is_set() {
@@ -71,6 +76,9 @@ impl<'a, B: Barrier> Acceptor for MemoryAcceptor<'a, B> {
                     federate,
                     connection,
                 } = came;
+                let Some(connection) = NotedTransport::around(connection, sends) else {
+                    break;
+                };
                 let accepted = Accepted {
                     connection: HeardTransport::around(connection, heard, barrier),
                     first: Vec::new(alloc),

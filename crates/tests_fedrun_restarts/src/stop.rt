@@ -5,6 +5,8 @@ pub(crate) enum Stop {
     Fell,
     /// Something left it whose cause its disk didn't keep.
     LeftUnkept,
+    /// Something left it that its barrier didn't let by, or the other way round.
+    LeftUnasked,
     /// Another node acknowledged a signal that was never offered to it.
     OtherHistory,
     /// Begun again, it doesn't go on.

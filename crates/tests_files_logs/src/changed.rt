@@ -23,9 +23,8 @@ fn before(place: usize) -> usize
     }
 }
 
-// What a change of the byte at this place does to a log of so many bytes, which ends with a block or with the end. Of a
-// block whose size isn't right nobody knows how much is behind it, so it may be a torn tail in a log that is shorter
-// than a block may be.
+// What a change of the byte at this place does to a log of so many bytes, which ends with a block or with the end. What
+// stands last may be a torn tail, but for the digest of an end.
 fn after_change(place: usize, length: usize) -> Outcome {
     if place < 8 {
         return Outcome::Fault(LogFault::NoLog);
@@ -33,17 +32,15 @@ fn after_change(place: usize, length: usize) -> Outcome {
     if place < HEAD_END {
         return DAMAGED;
     }
-    let before = before(place);
-    if place < before + 8 {
-        return front(before);
-    }
-    if place >= THIRD_END {
+    if place >= THIRD_END + 8 {
         return Outcome::Fault(LogFault::CutShort);
     }
+    let before = before(place);
     let is_last = match before {
         HEAD_END => length == FIRST_END,
         FIRST_END => length == SECOND_END,
-        _ => length == THIRD_END,
+        SECOND_END => length == THIRD_END,
+        _ => true,
     };
     if is_last { front(before) } else { DAMAGED }
 }

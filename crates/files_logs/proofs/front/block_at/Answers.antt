@@ -1,6 +1,7 @@
-use Rattle.std.proofs.Common.{◌≡◌, ◌<◌, ◌++◌, false, sym, ap, ◌∙◌, arith}
+use Rattle.std.proofs.Common.{◌≡◌, ◌<◌, ◌++◌, false, drop, sym, ap, ◌∙◌, arith}
 use Rattle.std.proofs.lemmas.Bool.{false≢true}
 use Rattle.std.proofs.lemmas.Bool.Decides.{nat_tests}
+use Rattle.std.proofs.lemmas.List.{drop-drop}
 use Rattle.files_logs.specs.Blocks.{size_bytes}
 use Rattle.files_logs.specs.Front.{is_size}
 use Rattle.files_logs.proofs.Fronts.{front_short}
@@ -15,7 +16,9 @@ returns-then-not-is_size-clause-stop c =
     let wrong : is_size c.args.before c.args.bytes.now ≡ false =
     no_size c.args.before c.take_four-size.result.0 c.take_four-check.result.0 c.args.bytes.now c.take_four-size.result.1.now
     c.take_four-size.ensures.value c.take_four-size.ensures.rest c.take_four-check.ensures.value (λ both. false≢true (sym c.if-not-is_size.true ∙ c.is_size.ensures.1 both)) in
-    unsized_stop c.args.before c.args.bytes.now c.unsized_tail.result (omega (arith, c.if-bytes-lt-SIZE_SIZE.false)) wrong c.unsized_tail.ensures
+    let behind : c.take_four-check.result.1.now ≡ drop 8 c.args.bytes.now =
+    c.take_four-check.ensures.rest ∙ ap (λ b. drop 4 b) c.take_four-size.ensures.rest ∙ drop-drop 4 4 c.args.bytes.now in
+    unsized_stop c.args.before c.args.bytes.now c.take_four-check.result.1.now c.unsized_tail.result (omega (arith, c.if-bytes-lt-SIZE_SIZE.false)) wrong behind c.unsized_tail.ensures
 
 pub returns-then-size-eq0-clause-stop : goal.returns-then-size-eq0-clause-stop
 returns-then-size-eq0-clause-stop c =
