@@ -126,7 +126,7 @@ impl<'a> Reader<'a> {
             Ok(Form::Let { name, value }) => self.bind(place, name, value, free),
             Ok(Form::If(condition)) => {
                 let condition = placed(place, self.read(condition))?;
-                let branches = self.branches(place, condition, free)?;
+                let branches = self.branches(place, place, condition, free)?;
                 self.followed(branches, free)
             }
             Ok(Form::When { condition, deed }) => {
@@ -183,10 +183,11 @@ impl<'a> Reader<'a> {
         Ok(Part { block, ending })
     }
 
-    // The branches from a condition on, up to their `end`; nothing follows them yet.
+    // The branches from a condition on, up to the `end` of the `if` that opened them; nothing follows them yet.
     #[cycle(reading)]
     fn branches(
         &mut self,
+        opened: usize,
         place: usize,
         condition: Formula,
         free: usize,
@@ -209,7 +210,7 @@ impl<'a> Reader<'a> {
                 second: None,
             }),
             Ending::Else => {
-                let second = self.last_branch(place, next)?;
+                let second = self.last_branch(opened, next)?;
                 Ok(Branches {
                     place,
                     condition,
@@ -220,7 +221,7 @@ impl<'a> Reader<'a> {
             Ending::Elif(other) => {
                 let at = self.place;
                 let other = placed(at, self.read(other))?;
-                let inner = self.branches(at, other, next)?;
+                let inner = self.branches(opened, at, other, next)?;
                 let rest = self.boxed(Block::End)?;
                 let second = self.boxed(joined(inner, rest))?;
                 Ok(Branches {
@@ -230,13 +231,13 @@ impl<'a> Reader<'a> {
                     second: Some(second),
                 })
             }
-            Ending::Last => Err(BodyFaultKind::NoEnd.at(place)),
+            Ending::Last => Err(BodyFaultKind::NoEnd.at(opened)),
         }
     }
 
     // What stands behind `else`, up to the `end` of the `if` at this place.
     #[cycle(reading)]
-    fn last_branch(&mut self, place: usize, free: usize) -> Result<Box<Block>, BodyFault>
+    fn last_branch(&mut self, opened: usize, free: usize) -> Result<Box<Block>, BodyFault>
         ensures same { OnOk result ((self.new.names ≡ self.old.names)
             × (self.new.operands.items ≡ self.old.operands.items)) }
         ensures shorter { OnOk result (length self.new.rest.now ≤ length self.old.rest.now) }
@@ -247,7 +248,7 @@ impl<'a> Reader<'a> {
         let second = self.boxed(block)?;
         match ending {
             Ending::End => Ok(second),
-            Ending::Last => Err(BodyFaultKind::NoEnd.at(place)),
+            Ending::Last => Err(BodyFaultKind::NoEnd.at(opened)),
             _ => Err(BodyFaultKind::NoBranch.at(self.place)),
         }
     }

@@ -1,17 +1,19 @@
 //! The program `fedrun`: reads its words and files, and prints the rows of a federation.
 //!
 //! All it does is `fedrun_commands::command`, a function over words, files and writers, or for one node on a machine of
-//! its own `fedrun_hosts::node_command`; `main` hands them the machine's, and shows beside a command how far it is,
-//! where that is asked for.
+//! its own `fedrun_hosts::node_command`, or for a source those of `fedrun_expand` and `fedrun_lint_source`; `main` hands
+//! them the machine's, and shows beside a command how far it is, where that is asked for.
 #![tactic(auto)]
 
 mod version;
 
 use crate::version::{COMMIT, PROOF};
 use fedrun_commands::{NodeFault, command};
+use fedrun_expand::{asks_for_each, asks_for_expand, expand_command, expand_each_command};
 use fedrun_files::{Files, MachineFiles};
 use fedrun_help::{asks_for_hints, print_version, words_hint};
 use fedrun_hosts::{asks_for_node, node_command};
+use fedrun_lint_source::{asks_for_source_lint, lint_source_command};
 use fedrun_logs::{LogDisk, MachineLogs};
 use fedrun_progress::{NoProgress, Progress, ProgressLine, asks_for_progress};
 use fedrun_whole::given;
@@ -49,6 +51,8 @@ fn main(rt: HostRuntime) -> ExitCode {
                 run_node(
                     &rt, words, &mut files, &mut disk, &mut logs, &mut out, &mut err,
                 )
+            } else if asks_for_expand(words) || asks_for_source_lint(words) {
+                run_source(&rt, words, &mut files, &mut out, &mut err)
             } else if asks_for_progress(words) {
                 let line = ProgressLine::new(&rt);
                 let mut shown = rt.stderr();
@@ -132,6 +136,24 @@ fn run_node<
     err: &mut E,
 ) -> u8 {
     node_command(rt, words, files, disk, logs, out, err)
+}
+
+// Prints what a source becomes, or saves it for each value of a parameter, or says what is wrong in it.
+fn run_source<R: AllocGlobal + rt::Files, F: Files, O: Write, E: Write>(
+    rt: &R,
+    words: &[String],
+    files: &mut F,
+    out: &mut O,
+    err: &mut E,
+) -> u8 {
+    if asks_for_source_lint(words) {
+        lint_source_command(rt.alloc(), words, files, out, err)
+    } else if asks_for_each(words) {
+        let mut disk = MachineDisk::new(rt);
+        expand_each_command(rt.alloc(), words, files, &mut disk, err)
+    } else {
+        expand_command(rt.alloc(), words, files, out, err)
+    }
 }
 
 // A file in place of a standard stream that is closed, opened by options with which it can't serve as that stream. Else

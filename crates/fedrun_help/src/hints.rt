@@ -3,7 +3,9 @@
 use crate::usage::Usage;
 use clap::ArgMatches;
 use clap::error::{Error, ErrorKind};
-use fedrun_words::{CommandKind, CommandWords, all_commands, command_line, count};
+use fedrun_words::{
+    CommandKind, CommandWords, all_commands, command_line, count, given_value, value_range,
+};
 use std::alloc::Global;
 use std::fmt;
 use std::net::SocketAddr;
@@ -17,6 +19,8 @@ pub enum WordsHint<'a> {
     Refused(RefusedValue<'a>),
     /// IN and SCHEDULE of this command stand together, and something is given to it that one of them lacks.
     Apart(&'static CommandWords),
+    /// RANGE and FOLDER of this command stand together, and one of them is given.
+    OneOfTwo(&'static CommandWords),
 }
 
 /// A value that isn't what it has to be.
@@ -51,6 +55,13 @@ impl fmt::Display for WordsHint<'_> {
                     "error: IN and SCHEDULE stand together, and closing rounds are for them\n\nUsage: {usage}\n"
                 )
             }
+            WordsHint::OneOfTwo(command) => {
+                let usage = Usage(command);
+                write!(
+                    f,
+                    "error: --each and --out stand together\n\nUsage: {usage}\n"
+                )
+            }
         }
     }
 }
@@ -83,6 +94,7 @@ fn hint_of_parsed<'a>(matches: &ArgMatches<'a>) -> Option<WordsHint<'a>> {
             return match refused_value(command, given) {
                 Some(refused) => Some(WordsHint::Refused(refused)),
                 None if are_apart(command, given) => Some(WordsHint::Apart(command)),
+                None if is_one_of_two(command, given) => Some(WordsHint::OneOfTwo(command)),
                 None => None,
             };
         }
@@ -113,21 +125,24 @@ fn refused_value<'a>(
     None
 }
 
-// The value under this name, which is called so, where it isn't what it has to be.
+// The first value under this name, which is called so, that isn't what it has to be.
 fn refused_at<'a>(
     command: &'static CommandWords,
     given: &ArgMatches<'a>,
     name: &'static str,
     what: &str,
 ) -> Option<RefusedValue<'a>> {
-    let value = given.get_str(name)?;
-    let wanted = wanted(what, value)?;
-    Some(RefusedValue {
-        command,
-        name,
-        value,
-        wanted,
-    })
+    for value in given.get_strs(name).unwrap_or(&[]) {
+        if let Some(wanted) = wanted(what, value) {
+            return Some(RefusedValue {
+                command,
+                name,
+                value: *value,
+                wanted,
+            });
+        }
+    }
+    None
 }
 
 // What a value that is called so has to be, where this one isn't that.
@@ -148,6 +163,13 @@ fn wanted(what: &str, value: &str) -> Option<&'static str> {
         "COMMAND" if !all_commands().iter().any(|command| command.name == value) => {
             Some("a command's name")
         }
+        "NAME=VALUE" if given_value(value).is_none() => {
+            Some("a parameter's name, = and a whole number of 64 bits, as gain=3")
+        }
+        "RANGE" if value_range(value).is_none() => {
+            Some("a parameter and at most 1000 numbers, as \"gain in 1..10\"")
+        }
+        "FOLDER" if value.is_empty() => Some("a folder's name"),
         _ => None,
     }
 }
@@ -157,4 +179,10 @@ fn are_apart(command: &CommandWords, given: &ArgMatches<'_>) -> bool {
     command.kind == CommandKind::Draw
         && given.get_str("SCHEDULE").is_none()
         && (given.get_str("IN").is_some() || given.get_str("until-stuck").is_some())
+}
+
+// Whether values are given to `expand` and no folder, or a folder and no values.
+fn is_one_of_two(command: &CommandWords, given: &ArgMatches<'_>) -> bool {
+    command.kind == CommandKind::Expand
+        && given.get_str("each").is_some() != given.get_str("out").is_some()
 }

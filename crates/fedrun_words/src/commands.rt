@@ -13,6 +13,7 @@ pub enum CommandKind {
     Trace,
     Draw,
     Lint,
+    Expand,
     Coordinate,
     Join,
     Audit,
@@ -36,6 +37,8 @@ pub struct ArgumentWords {
 #[derive(Clone, Copy, Debug, PartialEq, Eq)]
 pub struct OptionWords {
     pub name: &'static str,
+    /// A letter that stands for the name behind one hyphen, where there is one.
+    pub letter: Option<char>,
     /// What its value is called, where it has one.
     pub value: Option<&'static str>,
     /// Whether its value is a file's name.
@@ -148,9 +151,22 @@ const COMMANDS: &[CommandWords] = &[
         name: "lint",
         arguments: &[FED],
         may_follow: &[IN],
-        options: &[],
+        options: &[AS_SOURCE],
         about: "all that is wrong in the files, and what is odd, with its line",
         more: &[],
+    },
+    CommandWords {
+        kind: CommandKind::Expand,
+        name: "expand",
+        arguments: &[SOURCE],
+        may_follow: &[VALUE],
+        options: &[EACH, OUT],
+        about: "the federation file that a source becomes: classes, counts, whole expressions",
+        more: &[
+            "A source has parameters, and bodies with expressions, branches and local names.",
+            "A federation file becomes itself.",
+            "With --each a file is saved for each value of a parameter, and nothing is printed.",
+        ],
     },
     CommandWords {
         kind: CommandKind::Coordinate,
@@ -240,6 +256,38 @@ const IN: ArgumentWords = ArgumentWords {
     about: "a file of recorded inputs, or - for none",
 };
 
+const SOURCE: ArgumentWords = ArgumentWords {
+    name: "SOURCE",
+    is_file: true,
+    is_repeated: false,
+    about: "a source of a federation, or - for standard input",
+};
+
+const VALUE: ArgumentWords = ArgumentWords {
+    name: "NAME=VALUE",
+    is_file: false,
+    is_repeated: true,
+    about: "a parameter of the source, and the whole number that it is to be",
+};
+
+const EACH: OptionWords = OptionWords {
+    name: "each",
+    letter: None,
+    value: Some("RANGE"),
+    is_file: false,
+    is_needed: false,
+    about: "a parameter and its values, as gain in 1..10, for each of which a file is saved",
+};
+
+const OUT: OptionWords = OptionWords {
+    name: "out",
+    letter: Some('o'),
+    value: Some("FOLDER"),
+    is_file: true,
+    is_needed: false,
+    about: "the folder, which is there, in which these are saved; -o for short",
+};
+
 const TURNS: ArgumentWords = ArgumentWords {
     name: "TURNS",
     is_file: false,
@@ -291,6 +339,7 @@ const SHELL: ArgumentWords = ArgumentWords {
 
 const TURNS_OF_EACH: OptionWords = OptionWords {
     name: "turns",
+    letter: None,
     value: Some("N"),
     is_file: false,
     is_needed: false,
@@ -299,6 +348,7 @@ const TURNS_OF_EACH: OptionWords = OptionWords {
 
 const FRAMES: OptionWords = OptionWords {
     name: "frames",
+    letter: None,
     value: Some("V"),
     is_file: false,
     is_needed: false,
@@ -307,6 +357,7 @@ const FRAMES: OptionWords = OptionWords {
 
 const CSV: OptionWords = OptionWords {
     name: "csv",
+    letter: None,
     value: None,
     is_file: false,
     is_needed: false,
@@ -315,14 +366,25 @@ const CSV: OptionWords = OptionWords {
 
 const PROGRESS: OptionWords = OptionWords {
     name: "progress",
+    letter: None,
     value: None,
     is_file: false,
     is_needed: false,
     about: "a line on the terminal says how far it is",
 };
 
+const AS_SOURCE: OptionWords = OptionWords {
+    name: "source",
+    letter: None,
+    value: None,
+    is_file: false,
+    is_needed: false,
+    about: "FED is a source: what is wrong in it, or odd in what it becomes",
+};
+
 const UNTIL_STUCK: OptionWords = OptionWords {
     name: "until-stuck",
+    letter: None,
     value: Some("N"),
     is_file: false,
     is_needed: false,
@@ -331,6 +393,7 @@ const UNTIL_STUCK: OptionWords = OptionWords {
 
 const LISTEN: OptionWords = OptionWords {
     name: "listen",
+    letter: None,
     value: Some("ADDRESS:PORT"),
     is_file: false,
     is_needed: true,
@@ -339,6 +402,7 @@ const LISTEN: OptionWords = OptionWords {
 
 const CONNECT: OptionWords = OptionWords {
     name: "connect",
+    letter: None,
     value: Some("ADDRESS:PORT"),
     is_file: false,
     is_needed: true,
@@ -347,6 +411,7 @@ const CONNECT: OptionWords = OptionWords {
 
 const REPORT: OptionWords = OptionWords {
     name: "report",
+    letter: None,
     value: Some("FILE"),
     is_file: true,
     is_needed: true,
@@ -355,6 +420,7 @@ const REPORT: OptionWords = OptionWords {
 
 const SECRET: OptionWords = OptionWords {
     name: "secret",
+    letter: None,
     value: Some("FILE"),
     is_file: true,
     is_needed: false,
@@ -363,6 +429,7 @@ const SECRET: OptionWords = OptionWords {
 
 const PATIENCE: OptionWords = OptionWords {
     name: "patience",
+    letter: None,
     value: Some("SECONDS"),
     is_file: false,
     is_needed: false,
@@ -371,6 +438,7 @@ const PATIENCE: OptionWords = OptionWords {
 
 const SYNC: OptionWords = OptionWords {
     name: "sync",
+    letter: None,
     value: Some("disk|system|no"),
     is_file: false,
     is_needed: false,

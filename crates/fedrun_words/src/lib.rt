@@ -25,6 +25,7 @@ mod reading;
 pub mod refusing;
 mod request;
 pub mod text;
+mod values;
 
 pub use commands::{ArgumentWords, CommandKind, CommandWords, OptionWords, all_commands};
 pub use fault::Fault;
@@ -39,3 +40,4 @@ pub use request::{
     RunRequest, Shell, TraceRequest, WholeRequest,
 };
 pub use text::{print_line, print_text};
+pub use values::{GivenValue, MOST_VALUES, ValueRange, given_value, value_range};

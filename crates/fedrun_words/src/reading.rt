@@ -91,8 +91,8 @@ fn requested<'a>(alloc: Global, matches: &ArgMatches<'a>) -> Result<Request<'a>,
     Err(WordsFault::Usage)
 }
 
-// The request of a subcommand with these arguments and options. Those of one node on a machine of its own are no
-// requests.
+// The request of a subcommand with these arguments and options. Those of one node on a machine of its own, of `expand`,
+// and of `lint` where it looks at a source, are no requests.
 fn request<'a>(
     alloc: Global,
     kind: CommandKind,
@@ -112,7 +112,7 @@ fn request<'a>(
         CommandKind::Help => help(given),
         CommandKind::Completions => completions(given),
         CommandKind::Manual => Some(about(AboutTopic::Manual)),
-        CommandKind::Coordinate | CommandKind::Join => None,
+        CommandKind::Expand | CommandKind::Coordinate | CommandKind::Join => None,
     };
     request.ok_or(WordsFault::Usage)
 }
@@ -160,6 +160,10 @@ fn described_option<'a>(alloc: Global, words: &OptionWords) -> Arg<'a> {
         .long(words.name)
         .required(words.is_needed)
         .help(words.about);
+    let option = match words.letter {
+        Some(letter) => option.short(letter),
+        None => option,
+    };
     match words.value {
         Some(value) => option.action(ArgAction::Set).value_name(value),
         None => option.action(ArgAction::SetTrue),
@@ -249,7 +253,11 @@ fn draw<'a>(given: &ArgMatches<'a>) -> Option<Request<'a>> {
     }
 }
 
+// Of a federation file.
 fn lint<'a>(given: &ArgMatches<'a>) -> Option<Request<'a>> {
+    if given.get_flag("source") {
+        return None;
+    }
     Some(Request::Lint(LintRequest {
         federation: given.get_str("FED")?,
         inputs: given.get_str("IN").unwrap_or("-"),

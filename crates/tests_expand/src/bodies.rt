@@ -131,6 +131,7 @@ const REFUSED: &[(&str, &str)] = &[
     ("n = 9223372036854775808 + 1", "1: a number beyond 64 bits"),
     ("n = a / b", "1: divided by what is no constant"),
     ("n = 1;if a;n = 1", "2: no end of this if"),
+    ("n = 1;if a;elif b;n = 1;else;n = 2", "2: no end of this if"),
     ("else", "1: no if before it"),
     ("if a;else;else;end", "3: no if before it"),
     ("let n = 1 + a", "1: a name that is there already"),

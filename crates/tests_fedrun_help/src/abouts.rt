@@ -87,6 +87,23 @@ const HELPS: &[(&str, &str)] = &[
 ",
     ),
     (
+        "expand",
+        "  fedrun expand SOURCE [NAME=VALUE..] [--each RANGE] [--out FOLDER]
+      the federation file that a source becomes: classes, counts, whole expressions
+      A source has parameters, and bodies with expressions, branches and local names.
+      A federation file becomes itself.
+      With --each a file is saved for each value of a parameter, and nothing is printed.
+  SOURCE
+      a source of a federation, or - for standard input
+  NAME=VALUE..
+      a parameter of the source, and the whole number that it is to be
+  --each RANGE
+      a parameter and its values, as gain in 1..10, for each of which a file is saved
+  --out FOLDER
+      the folder, which is there, in which these are saved; -o for short
+",
+    ),
+    (
         "man",
         "  fedrun man
       the manual page, for man
@@ -130,7 +147,8 @@ const PARTS: &[(AboutTopic, &str, &[&str], &str)] = &[
         &[
             "names=' run record whole check ",
             " audit help completions man'\n",
-            "\n      draw) words='--help --until-stuck' ;;\n      lint) words='--help' ;;\n",
+            "\n      draw) words='--help --until-stuck' ;;\n      lint) words='--help --source' ;;\n      \
+             expand) words='--help --each --out' ;;\n",
         ],
         "\ncomplete -o default -F _fedrun fedrun\n",
     ),
@@ -162,8 +180,9 @@ const PARTS: &[(AboutTopic, &str, &[&str], &str)] = &[
         AboutTopic::Manual,
         ".TH FEDRUN 1\n",
         &[
-            "\n.TP\n.B fedrun lint FED [IN]\nall that is wrong in the files, and what is odd, with its line\n.RS\n.TP\nFED\na \
-             federation file, or - for standard input\n.TP\nIN\na file of recorded inputs, or - for none\n.RE\n.TP\n",
+            "\n.TP\n.B fedrun lint FED [IN] [--source]\nall that is wrong in the files, and what is odd, with its \
+             line\n.RS\n.TP\nFED\na federation file, or - for standard input\n.TP\nIN\na file of recorded inputs, or - for \
+             none\n.TP\n--source\nFED is a source: what is wrong in it, or odd in what it becomes\n.RE\n.TP\n",
             "\n.br\nThe reports of federates stand in any order.\n.RS\n",
         ],
         "\nA fault is told on standard error, on one line.\n",

@@ -113,6 +113,30 @@ const TOLD: &[(&[&str], &[&str])] = &[
         &["'runn' for 'COMMAND'", "Usage: fedrun help [COMMAND]"],
     ),
     (
+        &["expand", "s", "gain=1", "start"],
+        &[
+            "'start' for 'NAME=VALUE'",
+            "gain=3",
+            "Usage: fedrun expand SOURCE [NAME=VALUE..] [--each RANGE]",
+        ],
+    ),
+    (
+        &["expand", "s", "gain=9223372036854775808"],
+        &["'gain=9223372036854775808' for 'NAME=VALUE'"],
+    ),
+    (
+        &["expand", "s", "--each", "gain in 2..1", "-o", "f"],
+        &["'gain in 2..1' for 'each'", "gain in 1..10"],
+    ),
+    (
+        &["expand", "s", "--each", "gain in 1..2", "-o", ""],
+        &["'' for 'out'", "a folder's name"],
+    ),
+    (
+        &["expand", "s", "--each", "gain in 1..2"],
+        &["--each and --out stand together"],
+    ),
+    (
         &["draw", "f", "-"],
         &["IN and SCHEDULE", "Usage: fedrun draw FED [IN SCHEDULE]"],
     ),

@@ -1,5 +1,5 @@
 //! Tests of the words of the command line: which request they are, with which arguments and options, and which words
-//! are no command; and of how a text is written.
+//! are no command; what they give parameters of a source; and how a text is written.
 //!
 //! Begin with `ask` in `requests`.
 #![tactic(auto)]
@@ -10,3 +10,5 @@ mod refused_bytes;
 mod requests;
 #[cfg(test)]
 mod texts;
+#[cfg(test)]
+mod values;

@@ -427,6 +427,8 @@ const REFUSED: &[&[&str]] = &[
     &["lint"],
     &["lint", "f", "-", "s"],
     &["lint", "f", "--csv"],
+    &["lint", "f", "--source"],
+    &["expand", "s"],
     &["audit", "f", "-", "c"],
     &["audit", "f", "-", "c", "0", "--turns", "1"],
     &["audit", "f", "-", "c", "0", "--csv", "--csv"],

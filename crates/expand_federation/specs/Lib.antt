@@ -1,0 +1,5 @@
+-- The federation file that a source becomes.
+-- what is changed in a text
+pub mod Changes
+-- what a source becomes
+pub mod Made

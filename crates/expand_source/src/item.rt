@@ -1,0 +1,124 @@
+//! Items: what stands on a line of TOML by itself, with as many lines as it has. A header, a key with its value, a
+//! comment, or an empty line.
+
+use crate::token::{Token, TokenKind};
+use std::alloc::{AllocError, Global};
+
+/// The tokens of an item, the end of its line with them.
+#[derive(Clone, Copy)]
+pub struct Item<'a> {
+    pub tokens: &'a [Token<'a>],
+}
+
+/// The items of a text.
+pub fn items<'a>(alloc: Global, tokens: &'a [Token<'a>]) -> Result<Vec<Item<'a>>, AllocError> {
+    let mut items = Vec::new(alloc);
+    let mut depth = 0;
+    let mut from = 0;
+    for (place, token) in tokens.iter().enumerate() {
+        depth = depth_behind(depth, token.kind);
+        // A line that ends within brackets goes on.
+        if depth == 0 && token.kind == TokenKind::LineEnd {
+            let to = place.saturating_add(1);
+            push(&mut items, tokens, from, to)?;
+            from = to;
+        }
+    }
+    push(&mut items, tokens, from, tokens.len())?;
+    Ok(items)
+}
+
+fn push<'a>(
+    items: &mut Vec<Item<'a>>,
+    tokens: &'a [Token<'a>],
+    from: usize,
+    to: usize,
+) -> Result<(), AllocError> {
+    match tokens.get(from..to) {
+        Some([]) | None => {}
+        Some(tokens) => items.push(Item { tokens })?,
+    }
+    Ok(())
+}
+
+// In how many brackets one stands behind a token.
+fn depth_behind(depth: usize, kind: TokenKind) -> usize {
+    match kind {
+        TokenKind::Open => depth.saturating_add(1),
+        TokenKind::Close => depth.saturating_sub(1),
+        _ => depth,
+    }
+}
+
+impl<'a> Item<'a> {
+    /// How many bytes it has.
+    pub fn len(self) -> usize {
+        let mut len = 0usize;
+        for token in self.tokens {
+            len = len.saturating_add(token.text.len());
+        }
+        len
+    }
+
+    /// The line on which it begins.
+    pub fn line(self) -> usize {
+        match self.tokens {
+            [first, ..] => first.line,
+            [] => 0,
+        }
+    }
+
+    /// Whether it is an empty line or a comment.
+    pub fn is_blank(self) -> bool {
+        self.tokens.iter().all(|token| match token.kind {
+            TokenKind::Comment | TokenKind::LineEnd => true,
+            _ => token.text.trim_ascii().is_empty(),
+        })
+    }
+
+    /// What stands in the brackets of a header.
+    pub fn header(self) -> Option<&'a [u8]> {
+        let inside = match self.without_space() {
+            [open, second, name, ..] if is_open(open) && is_open(second) => name,
+            [open, name, ..] if is_open(open) => name,
+            _ => return None,
+        };
+        Some(inside.text.trim_ascii())
+    }
+
+    /// The key of a value.
+    pub fn key(self) -> Option<&'a [u8]> {
+        match self.without_space() {
+            [first, ..] if first.kind == TokenKind::Plain => before(first.text, b'='),
+            _ => None,
+        }
+    }
+
+    /// The first text in quotes.
+    pub fn quoted(self) -> Option<Token<'a>> {
+        for token in self.tokens {
+            if token.kind == TokenKind::Quoted {
+                return Some(*token);
+            }
+        }
+        None
+    }
+
+    fn without_space(self) -> &'a [Token<'a>] {
+        match self.tokens {
+            [first, rest @ ..] if first.text.trim_ascii().is_empty() => rest,
+            tokens => tokens,
+        }
+    }
+}
+
+fn is_open(token: &Token<'_>) -> bool {
+    token.kind == TokenKind::Open
+}
+
+/// What stands before a character, without the spaces around it.
+pub(crate) fn before(text: &[u8], character: u8) -> Option<&[u8]> {
+    let place = text.iter().position(|c| *c == character)?;
+    let front = text.get(..place)?;
+    Some(front.trim_ascii())
+}

@@ -1,0 +1,5 @@
+-- The command `lint` of a source.
+-- its own fault
+pub mod Faults
+-- what is printed
+pub mod Looked

@@ -1,0 +1,18 @@
+//! Tests of sources with parameters, classes and many of a kind: what they become, byte by byte, which are refused, and
+//! that federation files stay as they are.
+//!
+//! Begin with `sources`, which are worked by hand, then `expansions`.
+#![tactic(auto)]
+
+#[cfg(test)]
+mod answers;
+#[cfg(test)]
+mod expansions;
+#[cfg(test)]
+mod lines;
+#[cfg(test)]
+mod refusals;
+#[cfg(test)]
+mod sources;
+#[cfg(test)]
+mod unchanged;
