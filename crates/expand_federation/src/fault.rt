@@ -1,6 +1,10 @@
+ghost use Rattle.std.specs.Prelude.{◌≡◌};
+ghost use Rattle.expand_federation.specs.declared.fault.ExpandFault.TheVariants.{Memory};
+
 use expand_bodies::{BodyFault, BodyFaultKind};
 use expand_source::{SourceFault, SourceFaultKind};
 use loadfed::LoadFault;
+use loadfed_tables::TableFault;
 use std::alloc::{AllocError, AllocFailed};
 use std::fmt;
 
@@ -14,6 +18,9 @@ pub enum ExpandFault {
     Body(BodyFault),
     /// What comes out is no federation file.
     NoFederation(NoFederation),
+    /// What comes out is a federation file, but not what the tables of the source say. Write braces in plain quotes, and
+    /// keys without quotes.
+    OtherMeaning,
     /// An allocation failed. The same call may be made again.
     Memory,
 }
@@ -34,6 +41,10 @@ impl fmt::Display for ExpandFault {
             ExpandFault::Source(fault) => write!(f, "{}", fault.kind),
             ExpandFault::Body(fault) => write!(f, "38 BadBody: {}", fault.kind),
             ExpandFault::NoFederation(text) => write!(f, "{}", text.fault),
+            ExpandFault::OtherMeaning => write!(
+                f,
+                "39 OtherMeaning: write braces in plain quotes, and keys without quotes"
+            ),
             ExpandFault::Memory => write!(f, "37 Memory"),
         }
     }
@@ -57,7 +68,19 @@ impl From<BodyFault> for ExpandFault {
     }
 }
 
+// Tables are read once more where the text was taken: what is wrong in them then shows that it says something else.
+impl From<TableFault> for ExpandFault {
+    fn from(fault: TableFault) -> ExpandFault {
+        match fault {
+            TableFault::Memory => ExpandFault::Memory,
+            _ => ExpandFault::OtherMeaning,
+        }
+    }
+}
+
 impl From<AllocError> for ExpandFault {
+    ghost from_gives = { λ _ fault. fault ≡ Memory };
+
     fn from(_error: AllocError) -> ExpandFault {
         ExpandFault::Memory
     }

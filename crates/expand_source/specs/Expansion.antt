@@ -90,8 +90,8 @@ AreSet names = AllZip (λ setting set. (n : ℤ) × HasValue names setting.expre
 -- default, then parameters of the source. What it sets is worked out over its number and the source's parameters.
 abbrev pub AreNames : Part → ℕ → List NamedOperand → Type 0
 AreNames part k names =
-    (set : List NamedOperand) × AreSet (number_of_copy part.range k ++ part.parameters.items) part.settings.items set
-    × (names ≡ number_of_copy part.range k ++ (set ++ (part.defaults.items ++ part.parameters.items)))
+    (set : List NamedOperand) × AreSet (number_of_copy part.range k ++ part.parameters.now) part.settings.items set
+    × (names ≡ number_of_copy part.range k ++ (set ++ (part.defaults.items ++ part.parameters.now)))
 
 -- a part's k-th copy
 abbrev pub IsCopy : Part → ℕ → List ℕ → Type 0

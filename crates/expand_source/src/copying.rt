@@ -69,8 +69,7 @@ impl Part<'_> {
         ensures { IfOk result (λ names. AreNames self.now k names.items) }
     {
         let own = at(self.line, number_of(alloc, &self.range, k))?;
-        let parameters = self.parameters.as_slice();
-        let known = at(self.line, joined(alloc, own.as_slice(), parameters))?;
+        let known = at(self.line, joined(alloc, own.as_slice(), self.parameters))?;
         let set = set(alloc, known.as_slice(), self.settings.as_slice())?;
         at(
             self.line,
@@ -86,17 +85,17 @@ impl Part<'_> {
         set: &[NamedOperand],
     ) -> Result<Vec<NamedOperand>, SourceFaultKind>
         ensures { IfOk result (λ names. names.items
-            ≡ own.now ++ (set.now ++ (self.now.defaults.items ++ self.now.parameters.items))) }
+            ≡ own.now ++ (set.now ++ (self.now.defaults.items ++ self.now.parameters.now))) }
     {
         let mut names = joined(alloc, own, set)?;
         copy_into(&mut names, self.defaults.as_slice())?;
-        copy_into(&mut names, self.parameters.as_slice())?;
+        copy_into(&mut names, self.parameters)?;
         Ok(names)
     }
 }
 
-// The number of a copy, by its name.
-fn number_of(
+/// The number of a copy, by its name.
+pub fn number_of(
     alloc: Global,
     range: &Option<Range>,
     k: usize,
@@ -183,11 +182,9 @@ fn joined(
     Ok(names)
 }
 
+/// Adds copies of names to others.
 #[tactic(auto, using(crate::proofs::Copies::one_name_more))]
-pub(crate) fn copy_into(
-    names: &mut Vec<NamedOperand>,
-    more: &[NamedOperand],
-) -> Result<(), AllocError>
+pub fn copy_into(names: &mut Vec<NamedOperand>, more: &[NamedOperand]) -> Result<(), AllocError>
     ensures { OnOk result (names.new.items ≡ names.old.items ++ more.now) }
 {
     for name in more {

@@ -9,7 +9,7 @@ use crate::group::{Group, groups};
 use crate::item::{Item, items};
 use crate::lines::lines_of;
 use crate::part::{Given, Part};
-use crate::reading::parts;
+use crate::reading::{parameters, parts};
 use crate::token::{Token, line_ends, tokens};
 use std::alloc::Global;
 use toml::Table;
@@ -34,7 +34,8 @@ pub fn expand(alloc: Global, source: &[u8], given: &[Given]) -> Result<Expansion
     let tokens = at(0, tokens_of(alloc, source))?;
     let items = at(0, items_of(alloc, tokens.as_slice()))?;
     let groups = at(0, groups_of(alloc, items.as_slice()))?;
-    let parts = parts(alloc, &table, groups.as_slice(), given)?;
+    let parameters = parameters(alloc, &table, groups.as_slice(), given)?;
+    let parts = parts(alloc, groups.as_slice(), parameters.as_slice())?;
     let text = expanded(alloc, parts.as_slice())?;
     let lines = at(0, source_lines(alloc, parts.as_slice()))?;
     Ok(Expansion { text, lines })

@@ -20,12 +20,16 @@ pub enum SourceFaultKind {
     NotToml,
     /// A key is missing, is unknown, or has a value of another kind or form.
     WrongShape(Text),
-    /// More federates, connections or bytes than a federation file may have.
+    /// More federates or connections than a federation may have.
+    TooMany,
+    /// More bytes than a federation file may have, or more braces than a text may.
     OverLimit,
     /// A brace in a text without the other one.
     BadBrace,
     /// No expression, or one with a name that isn't there.
     BadExpression(ExpressionFault),
+    /// Braces where an expression stands without them: in `count`, `with` and `for`.
+    NeedlessBraces,
     /// A value for a parameter that isn't there.
     UnknownParameter(Text),
     /// A federate of a class that isn't there.
@@ -57,10 +61,11 @@ impl SourceFaultKind {
         match self {
             SourceFaultKind::NotToml => 30,
             SourceFaultKind::WrongShape(_) => 31,
+            SourceFaultKind::TooMany => 14,
             SourceFaultKind::OverLimit => 36,
             SourceFaultKind::Memory => 37,
             SourceFaultKind::BadBrace => 24,
-            SourceFaultKind::BadExpression(_) => 25,
+            SourceFaultKind::BadExpression(_) | SourceFaultKind::NeedlessBraces => 25,
             SourceFaultKind::UnknownParameter(_) => 26,
             SourceFaultKind::UnknownClass(_) => 27,
             SourceFaultKind::RepeatedClass(_) => 28,
@@ -72,9 +77,9 @@ impl SourceFaultKind {
         match self {
             SourceFaultKind::NotToml => "NotToml",
             SourceFaultKind::WrongShape(_) => "WrongShape",
-            SourceFaultKind::OverLimit => "OverLimit",
+            SourceFaultKind::TooMany | SourceFaultKind::OverLimit => "OverLimit",
             SourceFaultKind::BadBrace => "BadBrace",
-            SourceFaultKind::BadExpression(_) => "BadExpression",
+            SourceFaultKind::BadExpression(_) | SourceFaultKind::NeedlessBraces => "BadExpression",
             SourceFaultKind::UnknownParameter(_) => "UnknownParameter",
             SourceFaultKind::UnknownClass(_) => "UnknownClass",
             SourceFaultKind::RepeatedClass(_) => "RepeatedClass",
@@ -93,6 +98,7 @@ impl fmt::Display for SourceFaultKind {
             | SourceFaultKind::UnknownClass(name)
             | SourceFaultKind::RepeatedClass(name) => write!(f, " {}", name.as_str()),
             SourceFaultKind::BadExpression(fault) => write!(f, ": {fault}"),
+            SourceFaultKind::NeedlessBraces => f.write_str(": no braces stand here"),
             _ => Ok(()),
         }
     }

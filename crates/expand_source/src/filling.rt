@@ -13,7 +13,7 @@ use expand_expressions::words::after;
 use std::alloc::{AllocError, Global};
 
 /// How many braces one text may have.
-const MOST_HOLES: usize = 256;
+pub const MOST_HOLES: usize = 256;
 
 /// Adds a template, filled, to a text.
 #[tactic(auto, using(crate::proofs::Braces::none_filled, crate::proofs::Braces::all_filled))]
@@ -106,10 +106,10 @@ fn fill_number(
 
 /// What stands in front of the first brace, what is in braces there, and what follows.
 #[derive(Clone, Copy)]
-struct Hole<'a> {
-    front: &'a [u8],
-    expression: &'a [u8],
-    rest: &'a [u8],
+pub struct Hole<'a> {
+    pub front: &'a [u8],
+    pub expression: &'a [u8],
+    pub rest: &'a [u8],
 }
 
 impl Hole<'_> {
@@ -121,9 +121,9 @@ impl Hole<'_> {
     }
 }
 
-// Adds a text with its braces filled, of which there are no more than so many.
+/// Adds a text with its braces filled, of which there are no more than so many.
 #[tactic(auto, using(crate::proofs::Braces::hole_filled, crate::proofs::Braces::filled_as_it_is))]
-fn fill_text(
+pub fn fill_text(
     alloc: Global,
     names: &[NamedOperand],
     template: &[u8],
@@ -148,8 +148,9 @@ fn fill_text(
     }
 }
 
+/// The first braces of a text, if it has any.
 #[tactic(auto, using(crate::proofs::Braces::next_hole_is, crate::proofs::Braces::no_hole))]
-fn next_hole(text: &[u8]) -> Result<Option<Hole<'_>>, SourceFaultKind>
+pub fn next_hole(text: &[u8]) -> Result<Option<Hole<'_>>, SourceFaultKind>
     ensures { IfOk result (λ hole. MatchOption hole (IsPlain text.now)
         (λ hole. IsNextHole text.now hole.front.now hole.expression.now hole.rest.now)) }
 {

@@ -86,17 +86,24 @@ impl<'a> Item<'a> {
         Some(inside.text.trim_ascii())
     }
 
-    /// The key of a value.
+    /// The key of a value, in quotes or without.
     pub fn key(self) -> Option<&'a [u8]> {
         match self.without_space() {
             [first, ..] if first.kind == TokenKind::Plain => before(first.text, b'='),
+            [first, second, ..] if first.kind == TokenKind::Quoted && is_equals(second) => {
+                inside_quotes(first.text)
+            }
             _ => None,
         }
     }
 
-    /// The first text in quotes.
+    /// The first text in quotes behind the key.
     pub fn quoted(self) -> Option<Token<'a>> {
-        for token in self.tokens {
+        let value = match self.without_space() {
+            [first, rest @ ..] if first.kind == TokenKind::Quoted => rest,
+            tokens => tokens,
+        };
+        for token in value {
             if token.kind == TokenKind::Quoted {
                 return Some(*token);
             }
@@ -114,6 +121,20 @@ impl<'a> Item<'a> {
 
 fn is_open(token: &Token<'_>) -> bool {
     token.kind == TokenKind::Open
+}
+
+// Whether it begins with the sign between a key and its value.
+fn is_equals(token: &Token<'_>) -> bool {
+    token.kind == TokenKind::Plain && token.text.trim_ascii().starts_with(b"=")
+}
+
+// What stands in quotes, where it is written as it is.
+fn inside_quotes(quoted: &[u8]) -> Option<&[u8]> {
+    match quoted {
+        [b'"', inside @ .., b'"'] if !inside.contains(&b'\\') => Some(inside),
+        [b'\'', inside @ .., b'\''] => Some(inside),
+        _ => None,
+    }
 }
 
 /// What stands before a character, without the spaces around it.

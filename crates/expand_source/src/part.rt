@@ -43,5 +43,5 @@ pub struct Part<'a> {
     pub defaults: Vec<NamedOperand>,
     /// The parameters of the source. Of two of one name the first counts; before these come defaults, what is set, and
     /// the number of the copy.
-    pub parameters: Vec<NamedOperand>,
+    pub parameters: &'a [NamedOperand],
 }

@@ -8,7 +8,7 @@ use crate::numbers::number;
 use crate::part::{Given, Part, Range, Setting};
 use crate::template::{closed, plain, push_all, without};
 use crate::token::{Token, TokenKind};
-use crate::values::{numbers_at, only_entry, setting_of, text_at};
+use crate::values::{numbers_at, only_entry, setting_of, text_at, without_braces};
 use expand_expressions::NamedOperand;
 use loadfed_tables::Section;
 use plan::limits::{MOST_CONNECTIONS, MOST_FEDERATES};
@@ -20,16 +20,15 @@ use toml::{Table, Value};
 /// The name of a federate's number among those of its entry.
 const NUMBER: &str = "i";
 
-/// The parts that groups are, in their order.
+/// The parts that groups are, in their order, in a source with these parameters.
 pub(crate) fn parts<'a>(
     alloc: Global,
-    source: &Table,
     groups: &[Group<'a>],
-    given: &[Given],
+    parameters: &'a [NamedOperand],
 ) -> Result<Vec<Part<'a>>, SourceFault> {
     let mut reader = Reader {
         alloc,
-        parameters: parameters(alloc, source, groups, given)?,
+        parameters,
         classes: classes(alloc, groups)?,
         parts: Vec::new(alloc),
         federates: 0,
@@ -42,8 +41,8 @@ pub(crate) fn parts<'a>(
     Ok(reader.parts)
 }
 
-// The parameters of a source, but with the values that were given beside it.
-fn parameters(
+/// The parameters of a source, but with the values that were given beside it.
+pub(crate) fn parameters(
     alloc: Global,
     source: &Table,
     groups: &[Group<'_>],
@@ -98,7 +97,7 @@ impl Copies {
 #[derive(Drop)]
 struct Reader<'a> {
     alloc: Global,
-    parameters: Vec<NamedOperand>,
+    parameters: &'a [NamedOperand],
     classes: Vec<Class<'a>>,
     parts: Vec<Part<'a>>,
     federates: usize,
@@ -148,10 +147,7 @@ impl<'a> Reader<'a> {
     fn add_connections(&mut self, group: Group<'a>) -> Result<(), SourceFault> {
         let line = group.line_of("for");
         let table = group.document(self.alloc)?;
-        let range = at(
-            line,
-            range_of(self.alloc, self.parameters.as_slice(), &table),
-        )?;
+        let range = at(line, range_of(self.alloc, self.parameters, &table))?;
         self.count_connections(group, range.count)?;
         let template = at(line, without(self.alloc, group, &["for"]))?;
         self.add(group, template, Copies::of(self.alloc, Some(range)))
@@ -216,7 +212,7 @@ impl<'a> Reader<'a> {
         };
         let range = at(
             group.line_of("count"),
-            counted(self.alloc, self.parameters.as_slice(), value),
+            counted(self.alloc, self.parameters, value),
         )?;
         Ok(Some(range))
     }
@@ -224,7 +220,7 @@ impl<'a> Reader<'a> {
     fn count_federates(&mut self, group: Group<'a>, count: usize) -> Result<(), SourceFault> {
         self.federates = self.federates.saturating_add(count);
         if self.federates > MOST_FEDERATES {
-            return Err(SourceFaultKind::OverLimit.at(group.line_of("count")));
+            return Err(SourceFaultKind::TooMany.at(group.line_of("count")));
         }
         Ok(())
     }
@@ -232,7 +228,7 @@ impl<'a> Reader<'a> {
     fn count_connections(&mut self, group: Group<'a>, count: usize) -> Result<(), SourceFault> {
         self.connections = self.connections.saturating_add(count);
         if self.connections > MOST_CONNECTIONS {
-            return Err(SourceFaultKind::OverLimit.at(group.line_of("for")));
+            return Err(SourceFaultKind::TooMany.at(group.line_of("for")));
         }
         Ok(())
     }
@@ -244,14 +240,13 @@ impl<'a> Reader<'a> {
         copies: Copies,
     ) -> Result<(), SourceFault> {
         let line = group.line();
-        let parameters = at(line, copied(self.alloc, self.parameters.as_slice()))?;
         let part = Part {
             line,
             template,
             range: copies.range,
             settings: copies.settings,
             defaults: copies.defaults,
-            parameters,
+            parameters: self.parameters,
         };
         at(line, push_part(&mut self.parts, part))
     }
@@ -413,6 +408,7 @@ fn range_of(
         return Err(SourceFaultKind::wrong_shape(alloc, "connection"));
     };
     let text = text_at(alloc, entry, "for")?;
+    without_braces(text)?;
     let Some((name, bounds)) = text.split_once(" in ") else {
         return Err(SourceFaultKind::BadRange);
     };
@@ -438,10 +434,10 @@ fn count_between(first: i64, last: i64) -> Result<usize, SourceFaultKind> {
         return Ok(0);
     }
     let Some(behind) = last.checked_sub(first) else {
-        return Err(SourceFaultKind::OverLimit);
+        return Err(SourceFaultKind::TooMany);
     };
     match usize::try_from(behind) {
         Ok(behind) if behind < MOST_CONNECTIONS => Ok(behind + 1),
-        _ => Err(SourceFaultKind::OverLimit),
+        _ => Err(SourceFaultKind::TooMany),
     }
 }

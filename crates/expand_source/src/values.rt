@@ -29,8 +29,20 @@ pub(crate) fn text_at<'t>(
 pub(crate) fn setting_of(alloc: Global, key: &str, value: &Value) -> Result<Text, SourceFaultKind> {
     match value {
         Value::Integer(number) => Ok(Text::new(format!(in alloc; "{number}")?)),
-        Value::String(text) => Ok(Text::new(String::from_str(alloc, text.as_str())?)),
+        Value::String(text) => {
+            without_braces(text.as_str())?;
+            Ok(Text::new(String::from_str(alloc, text.as_str())?))
+        }
         _ => Err(SourceFaultKind::wrong_shape(alloc, key)),
+    }
+}
+
+/// Refuses braces, as an expression stands without them here.
+pub(crate) fn without_braces(text: &str) -> Result<(), SourceFaultKind> {
+    if text.as_bytes().iter().all(|c| *c != b'{' && *c != b'}') {
+        Ok(())
+    } else {
+        Err(SourceFaultKind::NeedlessBraces)
     }
 }
 

@@ -16,7 +16,7 @@ use Rattle.fedrun_expand.specs.Faults.{status_of}
 use Rattle.fedrun_expand.specs.Saved.{comment_text, file_name, value_at, IsUnmarked, IsFileFor, IsNamedFile, IsOneSaved, AreSaved, SavesFile, SavesEach}
 
 -- a text behind its comment, which was loaded as a slice
-pub file_for : (source made slice rest text bytes : List ℕ) (values : List Given) (d : Draft) (programs : List Behaviour) → IsFederationOf source made → slice ≡ made
+pub file_for : (source made slice rest text bytes : List ℕ) (values : List Given) (d : Draft) (programs : List Behaviour) → IsFederationOf source values made → slice ≡ made
     → IsUnmarked slice rest → text ≡ comment_text values ++ rest → bytes ≡ text → IsFederationFile bytes d programs → IsFileFor source values text
 file_for source made slice rest text bytes values d programs is same bare written lent file =
     (made, rest, is, subst (λ m. IsUnmarked m rest) same bare, written, subst IsFederationText lent (d, programs, file))

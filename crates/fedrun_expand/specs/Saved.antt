@@ -32,10 +32,11 @@ value_at each k = record { name = each.range.name.now; value = each.range.first 
 abbrev pub IsUnmarked : List ℕ → List ℕ → Type 0
 IsUnmarked text rest = (rest ≡ text) ⊎ (text ≡ 239 ∷ (187 ∷ (191 ∷ rest)))
 
--- a file of a source for these values: they as a comment, and then what the source becomes. It is a federation file
+-- a file of a source for these values: they as a comment, and then what the source becomes with them. It is a federation
+-- file
 abbrev pub IsFileFor : List ℕ → List Given → List ℕ → Type 0
 IsFileFor source values text =
-    (made rest : List ℕ) × IsFederationOf source made × IsUnmarked made rest
+    (made rest : List ℕ) × IsFederationOf source values made × IsUnmarked made rest
     × (text ≡ comment_text values ++ rest) × IsFederationText text
 
 -- the k-th file: its name, and its text

@@ -24,7 +24,7 @@ pub(crate) fn print_federation<'a, F: Files, O: Write>(
     out: &mut O,
 ) -> Result<(), Fault<'a, ExpandFailure>>
     ensures ok { OnOk result
-        (PrintsFile (F.contents files.old source.entry.now) (O.contents out.old) (O.contents out.new)) }
+        (PrintsFile (F.contents files.old source.entry.now) given.now (O.contents out.old) (O.contents out.new)) }
     ensures untouched { IfErr result (λ fault. status_of fault ≢ 3 → out.new ≡ out.old) }
 {
     match bytes_of(source, files, MOST_BYTES) {
@@ -41,7 +41,7 @@ fn print_expansion<O: Write>(
     given: &[Given],
     out: &mut O,
 ) -> Result<(), Fault<'static, ExpandFailure>>
-    ensures ok { OnOk result (PrintsExpansion bytes.now (O.contents out.old) (O.contents out.new)) }
+    ensures ok { OnOk result (PrintsExpansion bytes.now given.now (O.contents out.old) (O.contents out.new)) }
     ensures untouched { IfErr result (λ fault. status_of fault ≢ 3 → out.new ≡ out.old) }
 {
     match expand(alloc, bytes, given) {

@@ -16,6 +16,7 @@ pub(crate) fn told(alloc: Global, file: &str, fault: ExpandFault) -> Result<Stri
             let line = fault.line;
             told_of_line(alloc, file, line, ExpandFault::Body(fault))
         }
+        ExpandFault::OtherMeaning => told_of_line(alloc, file, 0, ExpandFault::OtherMeaning),
         // Out of memory is told in the same words everywhere.
         ExpandFault::Memory => Err(AllocError),
     }

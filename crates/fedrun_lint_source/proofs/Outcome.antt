@@ -1,5 +1,5 @@
 -- What was printed of a source in which nothing is wrong.
-use Rattle.std.proofs.Common.{◌≡◌, ℕ, List, Option, subst}
+use Rattle.std.proofs.Common.{◌≡◌, ℕ, List, [], Option, subst}
 use Rattle.std.specs.Prelude.{Result, Ok, Err, OnOk}
 use Rattle.fedrun_files.specs.Contents.{Contents, AreBytesOf}
 use Rattle.fedrun_files.specs.Loaded.{input_file}
@@ -7,7 +7,7 @@ use Rattle.expand_federation.specs.Made.{IsFederationOf}
 use Rattle.fedrun_lint_source.specs.Looked.{PrintsRightText, PrintsRight, PrintsLint, PrintsSome}
 
 -- the federation file that a source becomes
-pub right_source : {X E : Type 0} (r : Result X E) (name source text inputs_name inputs : List ℕ) (before after : Option (List ℕ)) → IsFederationOf source text
+pub right_source : {X E : Type 0} (r : Result X E) (name source text inputs_name inputs : List ℕ) (before after : Option (List ℕ)) → IsFederationOf source [] text
     → OnOk r (PrintsRightText name text inputs_name inputs before after) → OnOk r (PrintsRight name source inputs_name inputs before after)
 right_source (Ok x) name source text inputs_name inputs before after is printed = (text, is, printed)
 right_source (Err e) name source text inputs_name inputs before after is printed = tt

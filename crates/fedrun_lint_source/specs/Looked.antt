@@ -1,5 +1,5 @@
 -- What is printed of a source that is looked at. What a file holds is said where its bytes are known.
-use Rattle.std.specs.Prelude.{◌≡◌, ℕ, false, List, Option, None, Some, ⊤}
+use Rattle.std.specs.Prelude.{◌≡◌, ℕ, false, List, [], Option, None, Some, ⊤}
 use Rattle.fedrun_files.specs.Contents.{Contents, AreBytesOf}
 use Rattle.fedrun_files.specs.Loaded.{input_file}
 use Rattle.expand_federation.specs.Made.{IsFederationOf}
@@ -18,7 +18,7 @@ PrintsRightText name text inputs_name inputs before after =
 -- the same of the federation file that a source becomes, under the source's name
 abbrev pub PrintsRight : List ℕ → List ℕ → List ℕ → List ℕ → Option (List ℕ) → Option (List ℕ) → Type 0
 PrintsRight name source inputs_name inputs before after =
-    (text : List ℕ) × IsFederationOf source text × PrintsRightText name text inputs_name inputs before after
+    (text : List ℕ) × IsFederationOf source [] text × PrintsRightText name text inputs_name inputs before after
 
 -- the same of the source in a file, and of the inputs in another
 pub record PrintsLint (contents : Contents) (source inputs : List ℕ)

@@ -71,7 +71,7 @@ fn mistake_line(alloc: Global, file: &str, mistake: &ExpandFault) -> Result<Stri
     let line = match mistake {
         ExpandFault::Source(fault) => fault.line.max(1),
         ExpandFault::Body(fault) => fault.line.max(1),
-        ExpandFault::NoFederation(_) | ExpandFault::Memory => 1,
+        ExpandFault::NoFederation(_) | ExpandFault::OtherMeaning | ExpandFault::Memory => 1,
     };
     Ok(format!(in alloc; "{file}:{line}: wrong: {mistake}\n")?)
 }

@@ -29,7 +29,7 @@ fn line_of(fault: &ExpandFault) -> usize {
     match fault {
         ExpandFault::Source(fault) => fault.line,
         ExpandFault::Body(fault) => fault.line,
-        ExpandFault::NoFederation(_) | ExpandFault::Memory => 0,
+        ExpandFault::NoFederation(_) | ExpandFault::OtherMeaning | ExpandFault::Memory => 0,
     }
 }
 

@@ -5,7 +5,7 @@ use std::alloc::Global;
 use std::test::Fail;
 use tests_samples::joined;
 
-const THERMOSTAT_EXPANDED: &str = r#"stop = "50 s"
+pub(crate) const THERMOSTAT_EXPANDED: &str = r#"stop = "50 s"
 
 
 [[federate]]

@@ -13,4 +13,6 @@ mod mistakes;
 #[cfg(test)]
 mod rows;
 #[cfg(test)]
+mod slips;
+#[cfg(test)]
 mod sources;

@@ -150,6 +150,12 @@ const SMALL: &[(&str, &str)] = &[
         "[[federate]]\ncount = 0\nname = \"f\"\n[[connection]]\nfor = \"i in 1..0\"\nto = \"{i}\"\n",
         "",
     ),
+    // Keys in quotes.
+    (
+        "[[class]]\n\"name\" = \"c\"\n\"x\" = \"{i}\"\n\
+         [[federate]]\n\"name\" = \"f{i}\"\n'class' = \"c\"\n\"count\" = 2\n",
+        "[[federate]]\nname = \"f0\"\n\"x\" = 0\n\n[[federate]]\nname = \"f1\"\n\"x\" = 1\n\n",
+    ),
     // Comparisons, truths, the lesser, and how quotients are rounded.
     (
         "a = \"{3 > 2 and not 0} {min(4, 5)} {-7 / 2} {-7 % 2} {1 - 2 - 3}\"\n",

@@ -71,7 +71,7 @@ const REFUSED: &[(&str, &str)] = &[
     ),
     (
         "[[federate]]\nname = \"f{i}\"\ncount = 65\n",
-        "line 3: 36 OverLimit",
+        "line 3: 14 OverLimit",
     ),
     (
         "[[connection]]\nfrom = \"a.y\"\nfor = \"i in 3\"\n",
@@ -82,8 +82,12 @@ const REFUSED: &[(&str, &str)] = &[
         "line 3: 29 BadRange",
     ),
     (
+        "[[connection]]\nfrom = \"a.y\"\nfor = \"i in 0..{3}\"\n",
+        "line 3: 25 BadExpression: no braces stand here",
+    ),
+    (
         "[[connection]]\nfrom = \"a.y\"\nfor = \"i in 0..1024\"\n",
-        "line 3: 36 OverLimit",
+        "line 3: 14 OverLimit",
     ),
     // In a copy of a class, at the line of the class.
     (
@@ -104,6 +108,11 @@ const REFUSED: &[(&str, &str)] = &[
         "[[class]]\nname = \"c\"\nparameter = { n = 1 }\n[[federate]]\nname = \"f\"\nclass = \"c\"\n\
          with = { n = true }\n",
         "line 7: 31 WrongShape n",
+    ),
+    (
+        "[[class]]\nname = \"c\"\nparameter = { n = 1 }\n[[federate]]\nname = \"f\"\nclass = \"c\"\n\
+         with = { n = \"{2}\" }\n",
+        "line 7: 25 BadExpression: no braces stand here",
     ),
     (
         "[[class]]\nname = \"c\"\nparameter = { n = 1 }\n[[federate]]\nname = \"f\"\nclass = \"c\"\n\
@@ -128,7 +137,7 @@ const REFUSED: &[(&str, &str)] = &[
     ),
     (
         "[[federate]]\nname = \"f{i}\"\ncount = 64\n[[federate]]\nname = \"g\"\n",
-        "line 4: 36 OverLimit",
+        "line 4: 14 OverLimit",
     ),
     (
         "[[connection]]\nfrom = \"a.y\"\nfor = 3\n",
@@ -144,7 +153,7 @@ const REFUSED: &[(&str, &str)] = &[
     ),
     (
         "[[connection]]\nfrom = \"a.y\"\nfor = \"i in 0..1023\"\n[[connection]]\nfrom = \"b.y\"\n",
-        "line 4: 36 OverLimit",
+        "line 4: 14 OverLimit",
     ),
     // A copy's number is known in its own copies alone.
     (

@@ -3,7 +3,7 @@ use Rattle.fedrun_expand.proofs.printing.print_expansion.Goals as goal
 
 pub returns-in-Ok-clause-ok : goal.returns-in-Ok-clause-ok
 returns-in-Ok-clause-ok g c =
-    text_printed c.print.result c.args.bytes.now c.in-Ok.text.items c.as_slice.result.now (g.O.Write.contents c.args.out.now) (g.O.Write.contents c.print.new.out) c.in-Ok.ensures
+    text_printed c.print.result c.args.bytes.now c.in-Ok.text.items c.as_slice.result.now c.args.given.now (g.O.Write.contents c.args.out.now) (g.O.Write.contents c.print.new.out) c.in-Ok.ensures.ok
     c.as_slice.ensures.value c.print.ensures.ok
 
 pub returns-in-Ok-clause-untouched : goal.returns-in-Ok-clause-untouched

@@ -1,0 +1,10 @@
+use Rattle.std.proofs.Common.{map}
+use Rattle.toml.specs.View.{view, table_view}
+use Rattle.expand_documents.specs.Documents.{AreFederatesOf}
+use Rattle.expand_documents.proofs.CopyLists.{parted}
+use Rattle.expand_documents.proofs.documents.behind_federates.Goals as goal
+
+pub returns : goal.returns
+returns c =
+    parted (AreFederatesOf c.args.parameters.now (map view c.args.classes.now) (view c.args.value.now)) c.args.made.now c.in-Some.own.now c.in-Some.rest.now c.copy_count.result c.in-Some.ensures.cases
+    (table_view c.in_ok-entry.entry.now, c.in_ok-range.range, c.in_ok-entry.ensures, c.in_ok-range.ensures, c.in_ok-want_federates_of.ensures)

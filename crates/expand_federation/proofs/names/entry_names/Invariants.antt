@@ -1,0 +1,8 @@
+use Rattle.std.proofs.Common.{map, take, codes}
+use Rattle.toml.specs.View.{view}
+use Rattle.loadfed_tables.specs.Tables.{SaysName}
+use Rattle.loadfed.proofs.TableReadings.{AreRead}
+use Rattle.expand_federation.proofs.names.entry_names.Given as goal
+
+abbrev pub invariant-loop-value : goal.invariant-loop-value
+invariant-loop-value l = AreRead (SaysName (codes "name")) (map view (take l.value-index l.value-items)) l.names.items
