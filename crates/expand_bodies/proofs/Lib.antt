@@ -18,3 +18,5 @@ pub mod Read
 pub mod Lists
 -- what stands in front of a text
 pub mod Fronts
+-- names of scratch states, one more at a time
+pub mod Unused

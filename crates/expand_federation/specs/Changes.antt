@@ -1,8 +1,7 @@
 -- What is changed in a text, and what the text is then.
-use Rattle.std.specs.Prelude.{◌≡◌, ℕ, ◌-◌, List, [], ◌∷◌, ◌++◌, take, drop, codes, flat_map, All, None}
-use Rattle.plan_names.specs.Naming.{place_of}
+use Rattle.std.specs.Prelude.{◌≡◌, ℕ, ◌-◌, List, [], ◌∷◌, ◌++◌, take, drop, codes, flat_map}
 use Rattle.expand_bodies.specs.declared.names.BodyNames.{BodyNames}
-use Rattle.expand_bodies.specs.Expanded.{IsExpanded}
+use Rattle.expand_bodies.specs.Expanded.{AreScratchNames, IsExpanded}
 use Rattle.expand_federation.specs.declared.change.Joint.{Joint}
 use Rattle.expand_federation.specs.declared.change.Joint.TheVariants.{First, BehindState, BehindComma, NoList}
 use Rattle.expand_federation.specs.declared.change.Added.{Added}
@@ -52,13 +51,12 @@ list_end NoList = codes "\n]\n"
 abbrev pub states_text : Joint → List (List ℕ) → List ℕ
 states_text joint names = list_front joint ++ (flat_map (state_text joint) names ++ list_end joint)
 
--- what is put in: the expansion of a body; or scratch states, none of which has the name of a state of the federate
+-- what is put in: the expansion of a body; or scratch states
 abbrev pub IsAdded : BodyNames → Added → List ℕ → Type 0
 IsAdded names (Body lines) text =
     (texts : List (List ℕ)) × IsExpanded names lines.now texts × (text ≡ body_text texts)
 IsAdded names (States joint count) text =
-    (scratch : List (List ℕ)) × All (λ name. place_of names.states name ≡ None) scratch
-    × (text ≡ states_text joint scratch)
+    (scratch : List (List ℕ)) × AreScratchNames names.states scratch × (text ≡ states_text joint scratch)
 
 -- What a text is with its changes, in the order of their places: what stands before the first of them, what is put in
 -- for it, and so on. This many bytes stand before the text.
