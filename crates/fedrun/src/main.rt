@@ -1,28 +1,33 @@
 //! The program `fedrun`: reads its words and files, and prints the rows of a federation.
 //!
-//! All it does is `fedrun_commands::command`, a function over words, files and writers, or for one node on a machine of
-//! its own `fedrun_hosts::node_command`, or for a source those of `fedrun_expand` and `fedrun_lint_source`; `main` hands
-//! them the machine's, and shows beside a command how far it is, where that is asked for.
+//! All it does is `fedrun_commands::answer`, a function over words, files and writers, or for one node on a machine of
+//! its own `fedrun_hosts::node_answer`, or for a source those of `fedrun_expand` and `fedrun_lint_source`; `main` hands
+//! them the machine's, shows beside a command how far it is, or beside a node what happens there, where that is asked
+//! for, and tells more of a fault behind its line, where that is asked for or standard error is a terminal.
 #![tactic(auto)]
 
 mod version;
 
 use crate::version::{COMMIT, PROOF};
-use fedrun_commands::{NodeFault, command};
+use arrayvec::ArrayVec;
+use crossbeam_channel::Receiver;
+use fedrun_commands::{CommandAnswer, NodeFault, answer};
 use fedrun_expand::{asks_for_each, asks_for_expand, expand_command, expand_each_command};
 use fedrun_files::{Files, MachineFiles};
 use fedrun_help::{asks_for_hints, print_version, words_hint};
-use fedrun_hosts::{asks_for_node, node_command};
+use fedrun_hints::{NotedFiles, print_hint, print_node_hint};
+use fedrun_hosts::{NodeAnswer, asks_for_node, node_answer};
 use fedrun_lint_source::{asks_for_source_lint, lint_source_command};
 use fedrun_logs::{LogDisk, MachineLogs};
 use fedrun_progress::{NoProgress, Progress, ProgressLine, asks_for_progress};
+use fedrun_watch::{asks_for_log, show};
 use fedrun_whole::given;
 use fedrun_words::{Fault, asks_for_version, print_text, refuse};
 use files_keeping::Device;
 use files_saving::{Disk, MachineDisk};
 use std::alloc::Global;
 use std::fs::OpenOptions;
-use std::io::{ErrorKind, Write};
+use std::io::{ErrorKind, IsTerminal, Write};
 use std::net::{Net, TcpListener, TcpStream};
 use std::process::ExitCode;
 use std::random::RandomSource;
@@ -30,9 +35,13 @@ use std::sync::Wait;
 use std::thread::Threads;
 use std::time::Clock;
 use std::{fs, rt, thread};
+use wires_hosts::{Teller, Told};
 
 /// The exit status where words are no command.
 const USAGE: u8 = 2;
+
+/// The bytes of a fault's line that waits for other lines, at most: more than a file's name has.
+const MOST_FAULT: usize = 8192;
 
 fn main(rt: HostRuntime) -> ExitCode {
     let _input = stand_in(&rt, "/proc/self/fd/0", OpenOptions::new().write(true));
@@ -41,15 +50,17 @@ fn main(rt: HostRuntime) -> ExitCode {
     let mut err = rt.stderr();
     let status = match given(&rt, rt.stdout()) {
         Ok((words, mut out)) => {
-            let (words, hints) = asks_for_hints(words.as_slice());
-            let mut files = MachineFiles::new(&rt, rt.stdin());
+            let (words, said) = asks_for_hints(words.as_slice());
+            let hints = said.unwrap_or(err.is_terminal());
+            let mut files = NotedFiles::new(rt.alloc(), MachineFiles::new(&rt, rt.stdin()), hints);
             let status = if asks_for_version(words) {
                 say_version(&mut out, &mut err)
             } else if asks_for_node(words) {
                 let mut disk = MachineDisk::new(&rt);
                 let mut logs = MachineLogs::new(&rt);
+                let mut shown = rt.stderr();
                 run_node(
-                    &rt, words, &mut files, &mut disk, &mut logs, &mut out, &mut err,
+                    &rt, words, &mut files, &mut disk, &mut logs, &mut out, &mut err, &mut shown,
                 )
             } else if asks_for_expand(words) || asks_for_source_lint(words) {
                 run_source(&rt, words, &mut files, &mut out, &mut err)
@@ -94,8 +105,22 @@ fn say_version<O: Write, E: Write>(out: &mut O, err: &mut E) -> u8 {
     refuse(&fault, err).status
 }
 
-// `command` over a machine whose connections are TCP's: the prover wants their types named where a machine is handed
-// in.
+// Who tells what happens at a node, with the end where that is taken. None where the words don't ask for it, or there
+// is no memory: then nobody watches.
+fn watched<C: Clock>(
+    clock: &C,
+    alloc: Global,
+    words: &[String],
+) -> Option<(Teller, Receiver<Told>)> {
+    if asks_for_log(words) {
+        Teller::watched(clock, alloc).ok()
+    } else {
+        None
+    }
+}
+
+// `answer` over a machine whose connections are TCP's, as the prover wants their types named where a machine is handed
+// in; then what there is more to tell of its fault.
 fn run_command<
     R: AllocGlobal
         + Threads
@@ -103,15 +128,30 @@ fn run_command<
         + Clock
         + Net<Stream = TcpStream, Listener = TcpListener>
         + Sync,
-    F: Files,
+    F: Files + Drop,
     O: Write,
     E: Write,
     P: Progress + Sync,
->(rt: &R, words: &[String], files: &mut F, out: &mut O, err: &mut E, progress: &P) -> u8 {
-    command(rt, words, files, out, err, progress)
+>(
+    rt: &R,
+    words: &[String],
+    files: &mut NotedFiles<F>,
+    out: &mut O,
+    err: &mut E,
+    progress: &P,
+) -> u8 {
+    let CommandAnswer {
+        status,
+        fault,
+        is_printed: _,
+    } = answer(rt, words, files, out, err, progress);
+    if let Some(fault) = fault {
+        print_hint(rt.alloc(), words, fault, files, err);
+    }
+    status
 }
 
-// `node_command`, likewise.
+// `node_answer`, likewise; with `--log` what happens is shown meanwhile.
 fn run_node<
     R: AllocGlobal
         + Threads
@@ -120,22 +160,46 @@ fn run_node<
         + Net<Stream = TcpStream, Listener = TcpListener>
         + RandomSource
         + Sync,
-    F: Files,
+    F: Files + Drop,
     D: Disk,
     L: LogDisk<V>,
     V: Device + Drop + Send,
     O: Write,
     E: Write,
+    S: Write + Send,
 >(
     rt: &R,
     words: &[String],
-    files: &mut F,
+    files: &mut NotedFiles<F>,
     disk: &mut D,
     logs: &mut L,
     out: &mut O,
     err: &mut E,
+    shown: &mut S,
 ) -> u8 {
-    node_command(rt, words, files, disk, logs, out, err)
+    let answer = match watched(rt, rt.alloc(), words) {
+        Some((teller, told)) => {
+            // A fault comes last, behind all lines.
+            let mut line: ArrayVec<u8, MOST_FAULT> = ArrayVec::new();
+            let (_, answer) = thread::join(
+                rt,
+                || show(rt, rt.alloc(), &told, shown),
+                || {
+                    // Once it is gone all is shown.
+                    let teller = teller;
+                    node_answer(rt, words, files, disk, logs, out, &mut line, &teller)
+                },
+            );
+            let _is_told = err.write_all(line.as_slice());
+            answer
+        }
+        None => node_answer(rt, words, files, disk, logs, out, err, &Teller::silent()),
+    };
+    let NodeAnswer { status, fault } = answer;
+    if let Some(fault) = fault {
+        print_node_hint(rt.alloc(), words, fault, files, err);
+    }
+    status
 }
 
 // Prints what a source becomes, or saves it for each value of a parameter, or says what is wrong in it.

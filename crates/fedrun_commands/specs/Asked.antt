@@ -41,14 +41,14 @@ as_trace asked = record {
   output = of_play.Trace;
 }
 
--- a schedule that is drawn
+-- a schedule that is drawn, or some of its steps
 abbrev pub as_picture : DrawScheduleRequest → Play
 as_picture asked = record {
   federation = asked.federation;
   inputs = asked.inputs;
   schedule = asked.schedule;
   until_stuck = asked.until_stuck;
-  output = of_play.Picture;
+  output = of_play.Picture (record { from = asked.from; to = asked.to });
 }
 
 -- a run of which rows are printed

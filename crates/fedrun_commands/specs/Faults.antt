@@ -29,7 +29,7 @@ node_status (World memory) = 3
 node_status (Undrawn fault) = drawing_status fault
 node_status NotTaken = 1
 node_status (ReportFile name fault) = 1
-node_status NotFinished = 3
+node_status (NotFinished cause) = 3
 node_status (Unproved failure) = 3
 node_status (Run memory) = 3
 
@@ -40,7 +40,7 @@ printed_node_fault (World memory) = out_of_memory_text
 printed_node_fault (Undrawn fault) = picture.printed_fault fault
 printed_node_fault NotTaken = codes "not taken"
 printed_node_fault (ReportFile name fault) = name.now ++ codes ": " ++ node_file_text fault
-printed_node_fault NotFinished = codes "not finished"
+printed_node_fault (NotFinished cause) = codes "not finished"
 printed_node_fault (Unproved failure) = printed_failure failure
 printed_node_fault (Run memory) = memory_text
 

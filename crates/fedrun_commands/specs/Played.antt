@@ -14,17 +14,18 @@ use Rattle.fedrun_replay.specs.AsCsv.{IsReplayedIn, IsBrokenOffIn}
 use Rattle.fedrun_frames.specs.Shown.{ShowsSchedule, IsBrokenOff}
 use Rattle.fedrun_trace.specs.Traced as of_trace
 use Rattle.fedrun_draw.specs.Drawn.{HasPicture, IsShort, IsFaultOf}
+use Rattle.fedrun_draw.specs.declared.excerpt.Excerpt.{Excerpt}
 use Rattle.fedrun_draw.specs.declared.fault.DrawFault.{DrawFault}
 use Rattle.fedrun_commands.specs.declared.play.PlayOutput.{PlayOutput}
 use Rattle.fedrun_commands.specs.declared.play.PlayOutput.TheVariants.{Rows, Frames, Trace, Picture}
 use Rattle.fedrun_commands.specs.declared.fault.NodeFault.{NodeFault}
 use Rattle.fedrun_commands.specs.declared.fault.NodeFault.TheVariants.{World, Undrawn}
 
--- a picture was printed of a schedule that isn't too long for one
+-- a picture was printed of an excerpt of a schedule that isn't too long for one
 pub record IsDrawn (d : Draft) (programs : List Behaviour) (inputs : List Input) (s : Script) (closing : Option ℕ)
-    (before after : Option (List ℕ)) : Type 0 where
+    (excerpt : Excerpt) (before after : Option (List ℕ)) : Type 0 where
   pub picture : HasPicture before after
-  pub short : IsShort d programs inputs s closing
+  pub short : IsShort d programs inputs s closing excerpt
 
 -- what was asked for was printed of a schedule and its closing rounds: which steps were refused, and the rows; each
 -- step, with the frames that it sent, or as trace events; or a picture
@@ -35,7 +36,8 @@ IsPlayedAs (Rows format) d programs inputs s closing before after =
 IsPlayedAs Frames d programs inputs s closing before after = ShowsSchedule d programs inputs s closing before after
 IsPlayedAs Trace d programs inputs s closing before after =
     of_trace.TracesSchedule d programs inputs s closing before after
-IsPlayedAs Picture d programs inputs s closing before after = IsDrawn d programs inputs s closing before after
+IsPlayedAs (Picture excerpt) d programs inputs s closing before after =
+    IsDrawn d programs inputs s closing excerpt before after
 
 -- what stands where there was no memory for a step: what was printed of the steps before it
 abbrev pub IsBrokenOffAs : PlayOutput → Draft → List Behaviour → List Input → Script → Option ℕ → Option (List ℕ)
@@ -46,7 +48,7 @@ IsBrokenOffAs Frames d programs inputs s closing before after fault =
     IsBrokenOff d programs inputs s closing before after fault
 IsBrokenOffAs Trace d programs inputs s closing before after fault =
     of_trace.IsBrokenOff d programs inputs s closing before after fault
-IsBrokenOffAs Picture d programs inputs s closing before after fault = ⊥
+IsBrokenOffAs (Picture excerpt) d programs inputs s closing before after fault = ⊥
 
 -- why a schedule that came to this isn't played to its end or isn't printed: it can't be written, or there was no
 -- memory for a step
@@ -59,7 +61,7 @@ abbrev pub IsUndrawnAs : PlayOutput → Draft → List Behaviour → List Input 
 IsUndrawnAs (Rows format) d programs inputs s closing fault = ⊥
 IsUndrawnAs Frames d programs inputs s closing fault = ⊥
 IsUndrawnAs Trace d programs inputs s closing fault = ⊥
-IsUndrawnAs Picture d programs inputs s closing fault = IsFaultOf d programs inputs s closing fault
+IsUndrawnAs (Picture excerpt) d programs inputs s closing fault = IsFaultOf d programs inputs s closing excerpt fault
 
 -- why a schedule isn't played to its end or isn't printed, once all was loaded: there was no memory for a step; a
 -- picture isn't drawn; or it can't be written

@@ -19,6 +19,7 @@ use Rattle.fedrun_draw.specs.declared.fault.DrawFault.{DrawFault}
 use Rattle.fedrun_run.specs.Printed.{IsAuditFailure}
 use Rattle.fedrun_run.specs.declared.audit_failure.AuditFailure.{AuditFailure}
 use Rattle.desk.specs.declared.memory.Memory as run
+use Rattle.wires.specs.declared.run_fault.Cause.{Cause}
 use Rattle.fedrun_whole.specs.Refused as every
 use Rattle.fedrun_whole.specs.Refused.{IsWholeFault, IsCheckFault}
 use Rattle.fedrun_words.specs.declared.request.Request.{Request}
@@ -50,7 +51,7 @@ pub data IsScheduleFault (d : Draft) (name : Bor (List ℕ)) (contents : Content
 -- a run isn't finished, reports of it can't be believed, or there was no memory for it
 abbrev pub IsUnprintedRun : Sources → Fault NodeFault → Type 0
 IsUnprintedRun s fault =
-    (fault ≡ More NotFinished)
+    ((cause : Cause) × (fault ≡ More (NotFinished cause)))
     ⊎ (((failure : AuditFailure) × (fault ≡ More (Unproved failure))
     × IsAuditFailure s.plan s.programs s.inputs failure)
     ⊎ ((memory : run.Memory) × (fault ≡ More (of_nodes.Run memory))))

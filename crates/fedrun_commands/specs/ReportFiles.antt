@@ -6,6 +6,7 @@ use Rattle.node.specs.declared.event.Event.{Event}
 use Rattle.plan.specs.Federation.{federate_count}
 use Rattle.recorder_reports.specs.declared.report.Report.{Report}
 use Rattle.desk.specs.declared.memory.Memory as run
+use Rattle.wires.specs.declared.run_fault.Cause.TheVariants.{TurnsUsedUp}
 use Rattle.files_reports.specs.declared.file_digests.FileDigests.{FileDigests}
 use Rattle.files_reports.specs.declared.layout.TheConstants.{LONGEST_REPORT}
 use Rattle.fedrun_reports.specs.declared.node_file_fault.NodeFileFault.{NodeFileFault}
@@ -111,7 +112,7 @@ IsUnprinted s reports journal before after fault =
     (fault ≡ CannotWrite)
     ⊎ ((((failure : AuditFailure) × (fault ≡ More (Unproved failure))
     × IsAuditFailureOf s.plan s.programs s.inputs reports journal failure)
-    ⊎ (((fault ≡ More NotFinished) × IsUnfinished s.plan s.programs s.inputs reports journal)
+    ⊎ (((fault ≡ More (NotFinished TurnsUsedUp)) × IsUnfinished s.plan s.programs s.inputs reports journal)
     ⊎ ((memory : run.Memory) × (fault ≡ More (Run memory)))))
     × (after ≡ before))
 

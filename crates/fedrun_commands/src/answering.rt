@@ -1,5 +1,5 @@
-ghost use Rattle.std.specs.Prelude.{◌≡◌, ◌≢◌, ◌≤◌, ◌⊎◌};
-ghost use Rattle.fedrun_words.specs.Lines.{PrintsFault};
+ghost use Rattle.std.specs.Prelude.{◌≡◌, ◌≢◌, ◌≤◌, ◌⊎◌, MatchOption};
+ghost use Rattle.fedrun_words.specs.Lines.{line_of, PrintsFault};
 ghost use Rattle.fedrun_words.specs.Pieces.{AppendsPrefix, AppendsPrinted};
 ghost use Rattle.fedrun_files.specs.Answers.{Answers};
 ghost use Rattle.fedrun_commands.specs.Faults.{status_of, printed_fault};
@@ -7,12 +7,24 @@ ghost use Rattle.fedrun_commands.specs.Linted.{HasToldWrong};
 ghost use Rattle.fedrun_commands.specs.Printed.{PrintsAnswer};
 ghost use Rattle.fedrun_commands.specs.Refused.{Stands};
 
+use crate::fault::NodeFault;
 use crate::requests::perform;
 use fedrun_files::Files;
 use fedrun_progress::Progress;
-use fedrun_words::{Answered, refuse};
+use fedrun_words::{Answered, Fault, refuse};
 use std::io::Write;
 use wires::NetRuntime;
+
+/// What a command answers.
+#[derive(Drop)]
+pub struct CommandAnswer<'a> {
+    /// The exit status.
+    pub status: u8,
+    /// Why it isn't done, if it isn't.
+    pub fault: Option<Fault<'a, NodeFault<'a>>>,
+    /// Whether there was a fault, and its line could be written.
+    pub is_printed: bool,
+}
 
 /// Does what the words ask for, over these files, and answers the exit status: 0 where it is done, 1 where what it was
 /// given is refused or can't be read, or where `lint` told of something wrong, 2 where the words are no command, 3
@@ -40,21 +52,26 @@ pub fn command<R: AllocGlobal + NetRuntime, F: Files, O: Write, E: Write, P: Pro
     answer(rt, words, files, out, err, progress).status
 }
 
-/// As `command`; the answer says too whether the line of its fault could be written.
-pub fn answer<R: AllocGlobal + NetRuntime, F: Files, O: Write, E: Write, P: Progress + Sync>(
+/// As `command`; the answer says too which fault it is, and whether its line could be written.
+pub fn answer<'a, R: AllocGlobal + NetRuntime, F: Files, O: Write, E: Write, P: Progress + Sync>(
     rt: &R,
-    words: &[String],
+    words: &'a [String],
     files: &mut F,
     out: &mut O,
     err: &mut E,
     progress: &P,
-) -> Answered
+) -> CommandAnswer<'a>
     ensures done { result.status ≡ 0 → PrintsAnswer (F.contents files.old) (O.contents out.old) (O.contents out.new) }
     ensures quiet { result.status ≡ 0 → err.new ≡ err.old }
     ensures printed { result.status ≢ 0
         → PrintsFault (Stands (F.contents files.old) (Answers (F.answers files.old) (F.answers files.new))
         (O.contents out.old) (O.contents out.new)) status_of printed_fault result.status
         (AppendsPrinted result.is_printed (E.contents err.old) (E.contents err.new)) }
+    ensures fault { MatchOption result.fault (result.status ≡ 0) (λ fault.
+        Stands (F.contents files.old) (Answers (F.answers files.old) (F.answers files.new)) (O.contents out.old)
+        (O.contents out.new) fault
+        × (result.status ≡ status_of fault)
+        × AppendsPrinted result.is_printed (E.contents err.old) (E.contents err.new) (line_of (printed_fault fault))) }
     ensures untouched { result.status ≡ 1
         → (out.new ≡ out.old) ⊎ HasToldWrong (F.contents files.old) (O.contents out.old) (O.contents out.new) }
     ensures unused { result.status ≡ 2 → out.new ≡ out.old }
@@ -63,10 +80,18 @@ pub fn answer<R: AllocGlobal + NetRuntime, F: Files, O: Write, E: Write, P: Prog
     let done = perform(rt, rt.alloc(), words, files, out, progress);
     progress.end();
     match done {
-        Ok(()) => Answered {
+        Ok(()) => CommandAnswer {
             status: 0,
+            fault: None,
             is_printed: false,
         },
-        Err(fault) => refuse(&fault, err),
+        Err(fault) => {
+            let Answered { status, is_printed } = refuse(&fault, err);
+            CommandAnswer {
+                status,
+                fault: Some(fault),
+                is_printed,
+            }
+        }
     }
 }

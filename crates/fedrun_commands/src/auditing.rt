@@ -193,7 +193,7 @@ fn print_reports<O: Write>(
         out,
     ) {
         Ok(()) => flush(out),
-        Err(AuditedFault::NotFinished(_)) => Err(Fault::More(NodeFault::NotFinished)),
+        Err(AuditedFault::NotFinished(cause)) => Err(Fault::More(NodeFault::NotFinished(cause))),
         Err(AuditedFault::Unproved(failure)) => Err(Fault::More(NodeFault::Unproved(failure))),
         Err(AuditedFault::Memory) => Err(Fault::More(NodeFault::Run(desk::Memory))),
         Err(AuditedFault::CannotWrite) => Err(Fault::CannotWrite),

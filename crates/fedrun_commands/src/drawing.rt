@@ -12,7 +12,7 @@ use fedrun_words::{DrawFederationRequest, Fault, Request};
 use std::alloc::Global;
 use std::io::Write;
 
-/// Prints a picture of the federation.
+/// Prints a picture of the federation, with its reactions where they are asked for.
 pub(crate) fn draw_federation<'a, F: Files, O: Write>(
     alloc: Global,
     request: &DrawFederationRequest<'a>,
@@ -27,7 +27,14 @@ pub(crate) fn draw_federation<'a, F: Files, O: Write>(
     ensures untouched { IfErr result (λ fault. status_of fault ≢ 3 → out.new ≡ out.old) }
 {
     match read_federation(alloc, request.federation, files) {
-        Ok((plan, _programs)) => print_federation_picture(alloc, &plan, out),
+        Ok((plan, programs)) => {
+            let shown = if request.reactions {
+                Some(&programs)
+            } else {
+                None
+            };
+            print_federation_picture(alloc, &plan, shown, out)
+        }
         Err(fault) => Err(fault),
     }
 }

@@ -7,6 +7,7 @@ use fedrun_run::AuditFailure;
 use fedrun_words::MoreFault;
 use files_script::ScriptFault;
 use std::fmt;
+use wires::Cause;
 
 /// Why a command of nodes isn't done: those faults that `whole` and `check` don't have. What a library answered is kept
 /// as it is, and printed as the library has it.
@@ -23,9 +24,9 @@ pub enum NodeFault<'a> {
     NotTaken,
     /// The report or log of this name isn't taken, and the inner fault says why. Nothing was printed.
     ReportFile(&'a str, NodeFileFault),
-    /// The coordinator of a run isn't finished: a federate's turns were made before, or there was no listener, or a
-    /// thread couldn't be started. Nothing was printed. The same command may be given again, with more turns.
-    NotFinished,
+    /// The coordinator of a run isn't finished, for this cause. Nothing was printed. The same command may be given
+    /// again, with more turns where these were used up.
+    NotFinished(Cause),
     /// An audit doesn't believe what a run's nodes reported, and the inner failure says why. Nothing was printed.
     Unproved(AuditFailure),
     /// No memory for a run's nodes, workers or reports. Nothing was printed. The same command may be given again.
@@ -45,7 +46,7 @@ impl MoreFault for NodeFault<'_> {
             NodeFault::Schedule(_) | NodeFault::NotTaken | NodeFault::ReportFile(_, _) => 1,
             NodeFault::Undrawn(fault) => drawing_status(fault),
             NodeFault::World(_)
-            | NodeFault::NotFinished
+            | NodeFault::NotFinished(_)
             | NodeFault::Unproved(_)
             | NodeFault::Run(_) => 3,
         }
@@ -67,7 +68,7 @@ impl fmt::Display for NodeFault<'_> {
             NodeFault::Undrawn(fault) => write!(f, "{fault}"),
             NodeFault::NotTaken => write!(f, "not taken"),
             NodeFault::ReportFile(name, fault) => write!(f, "{name}: {fault}"),
-            NodeFault::NotFinished => write!(f, "not finished"),
+            NodeFault::NotFinished(_) => write!(f, "not finished"),
             NodeFault::Unproved(failure) => write!(f, "{failure}"),
             NodeFault::Run(memory) => write!(f, "{memory}"),
         }

@@ -19,5 +19,5 @@ mod requests;
 pub mod running;
 mod schedules;
 
-pub use answering::{answer, command};
+pub use answering::{CommandAnswer, answer, command};
 pub use fault::NodeFault;

@@ -1,3 +1,4 @@
+use fedrun_draw::Excerpt;
 use fedrun_files::Sources;
 use files_script::Script;
 use files_text::RowFormat;
@@ -23,8 +24,8 @@ pub enum PlayOutput {
     Frames,
     /// The same as trace events.
     Trace,
-    /// A picture.
-    Picture,
+    /// A picture of these steps.
+    Picture(Excerpt),
 }
 
 /// A federation with its recorded inputs and a schedule of it, as they were read.

@@ -9,6 +9,7 @@ use crate::fault::NodeFault;
 use crate::play::{Play, PlayOutput, Scheduled};
 use crate::printing::print_played;
 use crate::schedules::read_schedule;
+use fedrun_draw::Excerpt;
 use fedrun_files::{Files, read_sources};
 use fedrun_progress::Progress;
 use fedrun_words::{
@@ -92,7 +93,7 @@ pub(crate) fn show_trace<'a, F: Files, O: Write, P: Progress>(
     play_and_print(alloc, &play, files, out, progress)
 }
 
-/// Prints a picture of a schedule.
+/// Prints a picture of a schedule, or of some of its steps.
 pub(crate) fn draw_schedule<'a, F: Files, O: Write, P: Progress>(
     alloc: Global,
     request: &DrawScheduleRequest<'a>,
@@ -112,7 +113,10 @@ pub(crate) fn draw_schedule<'a, F: Files, O: Write, P: Progress>(
         inputs: request.inputs,
         schedule: request.schedule,
         until_stuck: request.until_stuck,
-        output: PlayOutput::Picture,
+        output: PlayOutput::Picture(Excerpt {
+            from: request.from,
+            to: request.to,
+        }),
     };
     play_and_print(alloc, &play, files, out, progress)
 }

@@ -16,7 +16,7 @@ ghost use Rattle.fedrun_commands.specs.Refused.{IsPictureFault, IsRunFault};
 use crate::fault::NodeFault;
 use crate::play::{PlayOutput, Scheduled};
 use crate::running::Run;
-use fedrun_draw::{DrawFault, draw_federation, draw_schedule};
+use fedrun_draw::{DrawFault, Excerpt, draw_federation, draw_schedule};
 use fedrun_files::Sources;
 use fedrun_frames::frames;
 use fedrun_progress::Progress;
@@ -26,6 +26,7 @@ use fedrun_trace::trace;
 use fedrun_words::Fault;
 use files_text::RowFormat;
 use plan::Plan;
+use reactor_programs::Programs;
 use std::alloc::Global;
 use std::io::Write;
 use wires::NetRuntime;
@@ -53,7 +54,7 @@ pub(crate) fn print_played<O: Write, P: Progress>(
         PlayOutput::Rows(format) => print_replay(alloc, scheduled, format, out, progress),
         PlayOutput::Frames => print_frames(alloc, scheduled, out),
         PlayOutput::Trace => print_trace(alloc, scheduled, out),
-        PlayOutput::Picture => print_schedule_picture(alloc, scheduled, out),
+        PlayOutput::Picture(excerpt) => print_schedule_picture(alloc, scheduled, excerpt, out),
     }
 }
 
@@ -168,18 +169,19 @@ fn sent_on<O: Write>(
     }
 }
 
-// Plays a schedule and prints a picture of it.
+// Plays a schedule and prints a picture of some of its steps.
 fn print_schedule_picture<O: Write>(
     alloc: Global,
     scheduled: &Scheduled,
+    excerpt: Excerpt,
     out: &mut O,
 ) -> Result<(), Fault<'static, NodeFault<'static>>>
     requires programs { AreProgramsOf scheduled.now.sources.plan scheduled.now.sources.programs }
     requires inputs { AreInputsOf scheduled.now.sources.plan scheduled.now.sources.inputs }
     ensures ok { OnOk result (IsDrawn scheduled.now.sources.plan scheduled.now.sources.programs
-        scheduled.now.sources.inputs scheduled.now.script scheduled.now.until_stuck
+        scheduled.now.sources.inputs scheduled.now.script scheduled.now.until_stuck excerpt
         (O.contents out.old) (O.contents out.new)) }
-    ensures stands { IfErr result (IsPlayFault PlayOutput.Picture scheduled.now.sources scheduled.now.script
+    ensures stands { IfErr result (IsPlayFault (PlayOutput.Picture excerpt) scheduled.now.sources scheduled.now.script
         scheduled.now.until_stuck
         (O.contents out.old) (O.contents out.new)) }
     ensures untouched { IfErr result (λ fault. status_of fault ≢ 3 → out.new ≡ out.old) }
@@ -193,6 +195,7 @@ fn print_schedule_picture<O: Write>(
         &sources.inputs,
         &scheduled.script,
         scheduled.until_stuck,
+        excerpt,
     ) {
         Ok(()) => flush(out),
         Err(DrawFault::CannotWrite) => Err(Fault::CannotWrite),
@@ -200,17 +203,18 @@ fn print_schedule_picture<O: Write>(
     }
 }
 
-/// Prints a picture of a federation.
+/// Prints a picture of a federation; where programs are passed, with its reactions.
 pub(crate) fn print_federation_picture<O: Write>(
     alloc: Global,
     plan: &Plan,
+    programs: Option<&Programs>,
     out: &mut O,
 ) -> Result<(), Fault<'static, NodeFault<'static>>>
     ensures ok { OnOk result (HasPicture (O.contents out.old) (O.contents out.new)) }
     ensures stands { IfErr result (IsPictureFault (O.contents out.old) (O.contents out.new)) }
     ensures untouched { IfErr result (λ fault. status_of fault ≢ 3 → out.new ≡ out.old) }
 {
-    match draw_federation(alloc, out, plan) {
+    match draw_federation(alloc, out, plan, programs) {
         Ok(()) => flush(out),
         Err(DrawFault::CannotWrite) => Err(Fault::CannotWrite),
         Err(fault) => Err(Fault::More(NodeFault::Undrawn(fault))),
@@ -245,7 +249,7 @@ pub(crate) fn print_run<R: NetRuntime, O: Write, P: Progress + Sync>(
         progress,
     ) {
         Ok(()) => flush(out),
-        Err(AuditedFault::NotFinished(_)) => Err(Fault::More(NodeFault::NotFinished)),
+        Err(AuditedFault::NotFinished(cause)) => Err(Fault::More(NodeFault::NotFinished(cause))),
         Err(AuditedFault::Unproved(failure)) => Err(Fault::More(NodeFault::Unproved(failure))),
         Err(AuditedFault::Memory) => Err(Fault::More(NodeFault::Run(desk::Memory))),
         Err(AuditedFault::CannotWrite) => Err(Fault::CannotWrite),

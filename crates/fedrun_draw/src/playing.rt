@@ -1,17 +1,21 @@
 //! What is drawn of a schedule, step by step.
-ghost use Rattle.std.specs.Prelude.{◌≡◌, ◌+◌, IfOk, OnOk, length, vec_len};
+ghost use Rattle.std.specs.Prelude.{◌≡◌, ◌+◌, ◌∷◌, [], ◌++◌, IfOk, OnOk, length, vec_len};
 ghost use Rattle.plan.specs.External.{AreInputsOf};
 ghost use Rattle.reactor_programs.specs.Programs.{AreProgramsOf};
+ghost use Rattle.fedrun_draw.specs.Drawn.{moment_lines, made_lines};
 
 use crate::fault::OutOfMemory;
+use crate::ways::{dir_of, forgets, is_frame, is_shown, outcome_ink, refusal, way_of};
 use crate::wording::{frame_ink, frame_text, row_text, step_text};
+use fedrun_frames::MadeStep;
 use files_pictures::history::{Arrival, History, Moment, RowMark, Sending};
-use files_pictures::shapes::{Ink, number_at, put_number, zeros};
+use files_pictures::shapes::{number_at, put_number, zeros};
 use files_text::federate_name;
 use plan::{Inputs, Plan};
 use reactor::Rows;
 use reactor_programs::Programs;
 use std::alloc::{AllocError, Global};
+use tag::Tag;
 use world::{Dir, Outcome, Step, World};
 
 /// What is seen of a world's steps, and how much of it was seen before.
@@ -24,32 +28,48 @@ struct Recording<'a> {
     down: Vec<usize>,
     /// How many rows of each federate were seen.
     rows: Vec<usize>,
+    /// The latest tag of a row that was seen.
+    latest: Option<Tag>,
+    /// The frames that came before the steps that are drawn.
+    came: Vec<Came>,
 }
 
-/// Makes these steps in a world of its own, and says what is drawn of them.
+/// A frame that came: the number-th from a federate, or to it.
+#[derive(Clone, Copy, Debug, PartialEq, Eq)]
+struct Came {
+    federate: usize,
+    is_up: bool,
+    number: usize,
+}
+
+/// Makes steps in a world of its own, one after the other, and says what is drawn of those that are to be.
 pub(crate) fn history_of(
     alloc: Global,
     plan: &Plan,
     programs: &Programs,
     inputs: &Inputs,
-    steps: &[Step],
+    before: &[MadeStep],
+    drawn: &[MadeStep],
+    after: &[MadeStep],
 ) -> Result<History, OutOfMemory>
     requires programs { AreProgramsOf plan.now programs.now }
     requires inputs { AreInputsOf plan.now inputs.now }
-    ensures { IfOk result (λ history. vec_len history.steps ≡ length steps.now) }
+    ensures each { IfOk result (λ history. vec_len history.steps ≡ length drawn.now) }
+    ensures lines { IfOk result (λ history. moment_lines history.steps.items ≡ made_lines drawn.now) }
 {
     let mut world = World::new(alloc, plan, programs, inputs)?;
     let mut recording = Recording::new(alloc, plan)?;
-    for step in steps {
-        recording.make(alloc, &mut world, *step)?;
-    }
+    recording.pass_all(&mut world, before)?;
+    recording.make_all(alloc, &mut world, drawn)?;
+    recording.look_at_all(&mut world, after)?;
     Ok(recording.into_history())
 }
 
 impl<'a> Recording<'a> {
     // Nothing was seen.
     fn new(alloc: Global, plan: &'a Plan) -> Result<Recording<'a>, AllocError>
-        ensures { IfOk result (λ recording. vec_len recording.history.steps ≡ 0) }
+        ensures empty { IfOk result (λ recording. vec_len recording.history.steps ≡ 0) }
+        ensures lines { IfOk result (λ recording. moment_lines recording.history.steps.items ≡ []) }
     {
         let count = plan.federate_count();
         let mut history = History::new(alloc);
@@ -63,6 +83,8 @@ impl<'a> Recording<'a> {
             up,
             down,
             rows,
+            latest: None,
+            came: Vec::new(alloc),
         })
     }
 
@@ -78,23 +100,156 @@ impl<'a> Recording<'a> {
         self.history.steps.len().saturating_sub(1)
     }
 
-    // Makes a step, and looks at what it changed.
-    fn make(&mut self, alloc: Global, world: &mut World<'_>, step: Step) -> Result<(), OutOfMemory>
-        ensures { OnOk result (vec_len self.new.history.steps ≡ vec_len self.old.history.steps + 1) }
+    // Makes steps before those that are drawn.
+    fn pass_all(&mut self, world: &mut World<'_>, made: &[MadeStep]) -> Result<(), OutOfMemory>
+        ensures { self.new.history.steps ≡ self.old.history.steps }
     {
+        for one in made {
+            self.pass(world, one.step())?;
+        }
+        Ok(())
+    }
+
+    // Makes a step before those that are drawn: nothing of it is new any more.
+    fn pass(&mut self, world: &mut World<'_>, step: Step) -> Result<(), OutOfMemory>
+        ensures { self.new.history.steps ≡ self.old.history.steps }
+    {
+        let _outcome = world.apply(step)?;
+        self.history.gone = self.history.gone.saturating_add(1);
+        self.note_arrival(world, step)?;
+        self.pass_each(world);
+        Ok(())
+    }
+
+    // All frames so far, and all rows, are seen.
+    fn pass_each(&mut self, world: &World<'_>)
+        ensures { self.new.history ≡ self.old.history }
+    {
+        for federate in 0..self.plan.federate_count() {
+            self.set_seen(federate, true, world.sent(Dir::Up(federate)));
+            self.set_seen(federate, false, world.sent(Dir::Down(federate)));
+            self.pass_rows(world, federate);
+        }
+    }
+
+    // Notes the frame that a step brought.
+    fn note_arrival(&mut self, world: &World<'_>, step: Step) -> Result<(), AllocError>
+        ensures { self.new.history ≡ self.old.history }
+    {
+        if let Step::Deliver(dir, number) = step {
+            let (federate, is_up) = way_of(dir);
+            if number <= world.sent(dir) {
+                self.came.push(Came {
+                    federate,
+                    is_up,
+                    number,
+                })?;
+            }
+        }
+        Ok(())
+    }
+
+    // The rows of a federate so far are seen.
+    fn pass_rows(&mut self, world: &World<'_>, federate: usize)
+        ensures { self.new.history ≡ self.old.history }
+    {
+        let Some(rows) = world.rows(federate) else {
+            return;
+        };
+        if let Some(last) = rows.len().checked_sub(1) {
+            let tag = rows.row(last).tag();
+            if is_later(tag, self.latest) {
+                self.latest = Some(tag);
+            }
+        }
+        put_number(&mut self.rows, federate, rows.len());
+    }
+
+    // Makes the steps that are drawn, and looks at what each changed.
+    fn make_all(
+        &mut self,
+        alloc: Global,
+        world: &mut World<'_>,
+        made: &[MadeStep],
+    ) -> Result<(), OutOfMemory>
+        ensures each { OnOk result (vec_len self.new.history.steps
+            ≡ vec_len self.old.history.steps + length made.now) }
+        ensures lines { OnOk result (moment_lines self.new.history.steps.items
+            ≡ moment_lines self.old.history.steps.items ++ made_lines made.now) }
+    {
+        for one in made {
+            self.make(alloc, world, *one)?;
+        }
+        Ok(())
+    }
+
+    // Makes steps after those that are drawn: they bring what was sent.
+    fn look_at_all(&mut self, world: &mut World<'_>, made: &[MadeStep]) -> Result<(), OutOfMemory>
+        ensures { self.new.history.steps ≡ self.old.history.steps }
+    {
+        for one in made {
+            self.look_at(world, one.step())?;
+        }
+        Ok(())
+    }
+
+    // Makes a step after those that are drawn: a frame of these that it brings, and that didn't come, comes late.
+    fn look_at(&mut self, world: &mut World<'_>, step: Step) -> Result<(), OutOfMemory>
+        ensures { self.new.history.steps ≡ self.old.history.steps }
+    {
+        let _outcome = world.apply(step)?;
+        if let Step::Deliver(dir, number) = step {
+            self.see_late(dir, number)?;
+        }
+        Ok(())
+    }
+
+    // A frame that is brought after the steps that are drawn comes late, if it didn't come in these.
+    fn see_late(&mut self, dir: Dir, number: usize) -> Result<(), AllocError>
+        ensures { self.new.history.steps ≡ self.old.history.steps }
+    {
+        let Some(place) = self.place_of(dir, number) else {
+            return Ok(());
+        };
+        if self.has_come(place) {
+            return Ok(());
+        }
+        self.history.set_late(place)
+    }
+
+    // Makes a step, and looks at what it changed.
+    fn make(
+        &mut self,
+        alloc: Global,
+        world: &mut World<'_>,
+        made: MadeStep,
+    ) -> Result<(), OutOfMemory>
+        ensures more { OnOk result (vec_len self.new.history.steps ≡ vec_len self.old.history.steps + 1) }
+        ensures line { OnOk result (moment_lines self.new.history.steps.items
+            ≡ moment_lines self.old.history.steps.items ++ made.line ∷ []) }
+    {
+        let step = made.step();
         let outcome = world.apply(step)?;
-        self.see_step(alloc, step, outcome)?;
-        self.see_arrival(step, outcome)?;
+        self.see_step(alloc, made, outcome)?;
+        self.see_arrival(alloc, world, step, outcome)?;
         self.see_each(alloc, world)
     }
 
     // Adds what is written beside the step.
-    fn see_step(&mut self, alloc: Global, step: Step, outcome: Outcome) -> Result<(), OutOfMemory>
-        ensures { OnOk result (vec_len self.new.history.steps ≡ vec_len self.old.history.steps + 1) }
+    fn see_step(
+        &mut self,
+        alloc: Global,
+        made: MadeStep,
+        outcome: Outcome,
+    ) -> Result<(), OutOfMemory>
+        ensures more { OnOk result (vec_len self.new.history.steps ≡ vec_len self.old.history.steps + 1) }
+        ensures line { OnOk result (moment_lines self.new.history.steps.items
+            ≡ moment_lines self.old.history.steps.items ++ made.line ∷ []) }
     {
-        let number = self.history.steps.len().saturating_add(1);
-        let text = step_text(alloc, self.plan, number, step, outcome)?;
+        let step = made.step();
+        let text = step_text(alloc, self.plan, step, outcome)?;
         let moment = Moment {
+            line: made.line(),
             text,
             ink: outcome_ink(outcome),
             is_shown: is_shown(step, outcome),
@@ -105,22 +260,62 @@ impl<'a> Recording<'a> {
     }
 
     // Adds the frame that a step brought.
-    fn see_arrival(&mut self, step: Step, outcome: Outcome) -> Result<(), AllocError>
+    fn see_arrival(
+        &mut self,
+        alloc: Global,
+        world: &World<'_>,
+        step: Step,
+        outcome: Outcome,
+    ) -> Result<(), AllocError>
         ensures { self.new.history.steps ≡ self.old.history.steps }
     {
         let Step::Deliver(dir, number) = step else {
             return Ok(());
         };
-        let Some(frame) = self.place_of(dir, number) else {
+        let Some(frame) = self.arriving(alloc, world, dir, number)? else {
             return Ok(());
         };
         let arrival = Arrival {
             frame,
             step: self.last_step(),
             refused: refusal(outcome),
-            is_again: self.has_come(frame),
+            is_again: self.has_come(frame) || self.came_before(dir, number),
         };
         self.history.add_arrival(arrival)
+    }
+
+    // The place among all frames of one that comes: where it was sent before what is drawn, it is added.
+    fn arriving(
+        &mut self,
+        alloc: Global,
+        world: &World<'_>,
+        dir: Dir,
+        number: usize,
+    ) -> Result<Option<usize>, AllocError>
+        ensures { self.new.history.steps ≡ self.old.history.steps }
+    {
+        let found = self.place_of(dir, number);
+        if found.is_some() {
+            return Ok(found);
+        }
+        let place = self.history.frames.len();
+        self.see_frame(alloc, world, dir, number, None)?;
+        if place < self.history.frames.len() {
+            Ok(Some(place))
+        } else {
+            Ok(None)
+        }
+    }
+
+    // Whether a frame came before the steps that are drawn.
+    fn came_before(&self, dir: Dir, number: usize) -> bool {
+        let (federate, is_up) = way_of(dir);
+        for came in self.came.as_slice() {
+            if came.federate == federate && came.is_up == is_up && came.number == number {
+                return true;
+            }
+        }
+        false
     }
 
     // The place among all frames of one of a direction.
@@ -171,7 +366,8 @@ impl<'a> Recording<'a> {
         let dir = dir_of(federate, is_up);
         let sent = world.sent(dir);
         for before in self.seen(federate, is_up)..sent {
-            self.see_frame(alloc, world, dir, before.saturating_add(1))?;
+            let step = self.last_step();
+            self.see_frame(alloc, world, dir, before.saturating_add(1), Some(step))?;
         }
         self.set_seen(federate, is_up, sent);
         Ok(())
@@ -197,13 +393,14 @@ impl<'a> Recording<'a> {
         }
     }
 
-    // Adds a frame that the last step sent.
+    // Adds a frame, if it is there, which this step sent, or one before those that are drawn.
     fn see_frame(
         &mut self,
         alloc: Global,
         world: &World<'_>,
         dir: Dir,
         number: usize,
+        step: Option<usize>,
     ) -> Result<(), AllocError>
         ensures { self.new.history.steps ≡ self.old.history.steps }
     {
@@ -216,9 +413,10 @@ impl<'a> Recording<'a> {
             federate,
             is_up,
             number,
-            step: self.last_step(),
+            step,
             ink: frame_ink(&frame),
             text,
+            is_late: false,
         };
         self.history.add_frame(sending)
     }
@@ -253,13 +451,44 @@ impl<'a> Recording<'a> {
         ensures { self.new.history.steps ≡ self.old.history.steps }
     {
         let text = row_text(alloc, self.plan, rows, place)?;
+        let begins = self.begun_tag(alloc, rows, place)?;
         let row = RowMark {
             federate,
             step: self.last_step(),
             text,
+            begins,
         };
         self.history.add_row(row)?;
         Ok(())
+    }
+
+    // The tag of a row as text, where it is later than that of each row before.
+    fn begun_tag(
+        &mut self,
+        alloc: Global,
+        rows: &Rows,
+        place: usize,
+    ) -> Result<Option<String>, AllocError>
+        ensures { self.new.history ≡ self.old.history }
+    {
+        if place >= rows.len() {
+            return Ok(None);
+        }
+        let tag = rows.row(place).tag();
+        if !is_later(tag, self.latest) {
+            return Ok(None);
+        }
+        self.latest = Some(tag);
+        let text = format!(in alloc; "{tag}")?;
+        Ok(Some(text))
+    }
+}
+
+// Whether a tag is later than this one, where there is one.
+fn is_later(tag: Tag, latest: Option<Tag>) -> bool {
+    match latest {
+        Some(latest) => latest < tag,
+        None => true,
     }
 }
 
@@ -270,56 +499,4 @@ fn names(alloc: Global, plan: &Plan) -> Result<Vec<String>, AllocError> {
         names.push(String::from_str(alloc, federate_name(plan, number))?)?;
     }
     Ok(names)
-}
-
-// The federate of a direction, and whether it leads to the coordinator.
-fn way_of(dir: Dir) -> (usize, bool) {
-    match dir {
-        Dir::Up(federate) => (federate, true),
-        Dir::Down(federate) => (federate, false),
-    }
-}
-
-fn dir_of(federate: usize, is_up: bool) -> Dir {
-    if is_up {
-        Dir::Up(federate)
-    } else {
-        Dir::Down(federate)
-    }
-}
-
-// Whether this is that frame of that direction.
-fn is_frame(frame: &Sending, federate: usize, is_up: bool, number: usize) -> bool {
-    frame.federate == federate && frame.is_up == is_up && frame.number == number
-}
-
-// The number by which something was refused.
-fn refusal(outcome: Outcome) -> Option<u16> {
-    match outcome {
-        Outcome::Refused(number) => Some(number),
-        Outcome::Nothing | Outcome::Done => None,
-    }
-}
-
-fn outcome_ink(outcome: Outcome) -> Ink {
-    match outcome {
-        Outcome::Refused(_) => Ink::Refused,
-        Outcome::Nothing | Outcome::Done => Ink::Faint,
-    }
-}
-
-// Whether a step has room in the picture: where it changed nothing, only if it was asked for by name.
-fn is_shown(step: Step, outcome: Outcome) -> bool {
-    match step {
-        Step::Deliver(_, _) | Step::Reconnect(_) | Step::Forget(_) => true,
-        Step::Announce(_) | Step::Advance(_) | Step::Resend(_) => outcome != Outcome::Nothing,
-    }
-}
-
-// The federate that a step made forget.
-fn forgets(step: Step, outcome: Outcome) -> Option<usize> {
-    match step {
-        Step::Forget(federate) if outcome == Outcome::Done => Some(federate),
-        _ => None,
-    }
 }

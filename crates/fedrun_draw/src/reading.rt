@@ -2,20 +2,27 @@
 ghost use Rattle.std.specs.Prelude.{◌≡◌, IfOk, length, vec_len};
 ghost use Rattle.plan.specs.Federation.{connections_of, federate_count};
 
+use crate::reactions::reaction_text;
 use files_pictures::figures::{Figure, Figures, Part, Wire};
 use files_pictures::shapes::Sign;
 use plan::{Federate, Plan, Slots, Timer};
 use plan_names::Text;
 use plan_paths::Connection;
+use reactor_program::Program;
+use reactor_programs::Programs;
 use std::alloc::{AllocError, Global};
 use tag::{Delay, Time};
 
-/// A plan's federates and connections, as they are drawn.
-pub fn figures_of(alloc: Global, plan: &Plan) -> Result<Figures, AllocError>
+/// A plan's federates and connections, as they are drawn. Where its programs are passed, with all reactions.
+pub fn figures_of(
+    alloc: Global,
+    plan: &Plan,
+    programs: Option<&Programs>,
+) -> Result<Figures, AllocError>
     ensures figures { IfOk result (λ all. vec_len all.figures ≡ federate_count plan.now) }
     ensures wires { IfOk result (λ all. vec_len all.wires ≡ length (connections_of plan.now)) }
 {
-    let figures = all_figures(alloc, plan)?;
+    let figures = all_figures(alloc, plan, programs)?;
     let wires = all_wires(alloc, plan.connections())?;
     let caption = caption(alloc, plan)?;
     Ok(Figures {
@@ -26,15 +33,25 @@ pub fn figures_of(alloc: Global, plan: &Plan) -> Result<Figures, AllocError>
 }
 
 // Its federates.
-fn all_figures(alloc: Global, plan: &Plan) -> Result<Vec<Figure>, AllocError>
+fn all_figures(
+    alloc: Global,
+    plan: &Plan,
+    programs: Option<&Programs>,
+) -> Result<Vec<Figure>, AllocError>
     ensures { IfOk result (λ figures. vec_len figures ≡ federate_count plan.now) }
 {
     let mut figures = Vec::new(alloc);
     for number in 0..plan.federate_count() {
-        let figure = figure_of(alloc, &plan.federates()[number], plan.rank(number))?;
+        let program = program_of(programs, number);
+        let figure = figure_of(alloc, &plan.federates()[number], plan.rank(number), program)?;
         figures.push(figure)?;
     }
     Ok(figures)
+}
+
+// The program of a federate, where programs are passed.
+fn program_of(programs: Option<&Programs>, number: usize) -> Option<&Program> {
+    programs?.as_slice().get(number)
 }
 
 // Connections.
@@ -56,11 +73,19 @@ fn caption(alloc: Global, plan: &Plan) -> Result<String, AllocError> {
 }
 
 // A federate, as it is drawn.
-fn figure_of(alloc: Global, federate: &Federate, rank: usize) -> Result<Figure, AllocError> {
+fn figure_of(
+    alloc: Global,
+    federate: &Federate,
+    rank: usize,
+    program: Option<&Program>,
+) -> Result<Figure, AllocError> {
     let name = String::from_str(alloc, federate.name.as_str())?;
     let inputs = texts(alloc, federate.slots.inputs.as_slice())?;
     let outputs = texts(alloc, federate.slots.outputs.as_slice())?;
-    let parts = parts(alloc, &federate.slots)?;
+    let mut parts = parts(alloc, &federate.slots)?;
+    if let Some(program) = program {
+        add_reactions(alloc, &mut parts, program)?;
+    }
     Ok(Figure {
         name,
         rank,
@@ -119,6 +144,22 @@ fn add_actions(
     for name in names {
         let text = String::from_str(alloc, name.as_str())?;
         add_part(parts, sign, text)?;
+    }
+    Ok(())
+}
+
+// Adds reactions, counted from 1.
+fn add_reactions(
+    alloc: Global,
+    parts: &mut Vec<Part>,
+    program: &Program,
+) -> Result<(), AllocError> {
+    for place in 0..program.reactions().len() {
+        if let Some(reaction) = program.reactions().get(place) {
+            let number = place.saturating_add(1);
+            let text = reaction_text(alloc, program.slots(), number, reaction)?;
+            add_part(parts, Sign::Reaction, text)?;
+        }
     }
     Ok(())
 }

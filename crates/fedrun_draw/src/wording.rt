@@ -7,24 +7,24 @@ use plan::{Plan, Slots};
 use reactor::Rows;
 use signal::{Frame, Signal};
 use std::alloc::{AllocError, Global};
+use tag::{Tag, succ};
 use world::{Outcome, Step};
 
-/// The most bytes of a row's text; what is longer is cut.
+/// The most bytes of the text of a row, or of a reaction; what is longer is cut.
 const LONGEST_ROW: usize = 72;
 
-/// A step with its number, as a schedule has it, and how it ended, where it was refused.
+/// A step, as a schedule has it, and how it ended, where it was refused.
 pub(crate) fn step_text(
     alloc: Global,
     plan: &Plan,
-    number: usize,
     step: Step,
     outcome: Outcome,
 ) -> Result<String, OutOfMemory> {
     let line = step_line(alloc, plan, step)?;
     let words = str::from_utf8(line.as_slice()).unwrap_or("").trim_end();
     let text = match outcome {
-        Outcome::Refused(refusal) => format!(in alloc; "{number} {words} refused {refusal}")?,
-        Outcome::Nothing | Outcome::Done => format!(in alloc; "{number} {words}")?,
+        Outcome::Refused(refusal) => format!(in alloc; "{words} refused {refusal}")?,
+        Outcome::Nothing | Outcome::Done => String::from_str(alloc, words)?,
     };
     Ok(text)
 }
@@ -68,17 +68,34 @@ fn push_count(text: &mut String, word: &str, count: u64) -> Result<(), AllocErro
 // Adds a signal.
 fn push_signal(text: &mut String, plan: &Plan, signal: Signal) -> Result<(), AllocError> {
     match signal {
-        Signal::Net(tag) => write!(text, "NET {tag}"),
-        Signal::Ltc(tag) => write!(text, "LTC {tag}"),
-        Signal::Tag(tag) => write!(text, "TAG {tag}"),
+        Signal::Net(tag) => push_tagged(text, "NET", tag),
+        Signal::Ltc(tag) => push_tagged(text, "LTC", tag.tag()),
+        Signal::Tag(tag) => push_tagged(text, "TAG", tag.tag()),
         Signal::Msg {
             connection,
             tag,
             value,
         } => {
             push_port(text, plan, usize::from(connection))?;
-            write!(text, "={value} {tag}")
+            write!(text, "={value} ")?;
+            push_tag(text, tag.tag())
         }
+    }
+}
+
+// Adds a word and a tag.
+fn push_tagged(text: &mut String, word: &str, tag: Tag) -> Result<(), AllocError> {
+    write!(text, "{word} ")?;
+    push_tag(text, tag)
+}
+
+// Adds a tag. The last one of its time, as grants have it, stands as what it is: just before the next time.
+fn push_tag(text: &mut String, tag: Tag) -> Result<(), AllocError> {
+    if tag.microstep() == u32::MAX {
+        let next = succ(tag);
+        write!(text, "just before {next}")
+    } else {
+        write!(text, "{tag}")
     }
 }
 
@@ -182,6 +199,18 @@ fn cut_text(alloc: Global, line: &str) -> Result<String, AllocError> {
         text.push_str("...")?;
     }
     Ok(text)
+}
+
+/// A text, cut where it is too long.
+pub(crate) fn cut(alloc: Global, text: &str) -> Result<String, AllocError> {
+    let mut short = String::new(alloc);
+    for letter in text.chars() {
+        push_letter(&mut short, letter)?;
+    }
+    if text.len() > LONGEST_ROW {
+        short.push_str("...")?;
+    }
+    Ok(short)
 }
 
 // Adds a letter, where there is room.

@@ -1,6 +1,6 @@
 -- What the program says of its own commands.
 use Rattle.std.specs.Prelude.{ℕ, List, ◌++◌, codes}
-use Rattle.fedrun_words.specs.declared.commands.CommandWords.{CommandWords}
+use Rattle.fedrun_words.specs.declared.commands.CommandTables.{CommandTables}
 use Rattle.fedrun_words.specs.declared.request.AboutRequest.{AboutRequest}
 use Rattle.fedrun_words.specs.declared.request.AboutTopic.{AboutTopic}
 use Rattle.fedrun_words.specs.declared.request.AboutTopic.TheVariants.{Commands, Command, Completions, Manual}
@@ -11,13 +11,13 @@ use Rattle.fedrun_help.specs.Help.{help_of_all, help_of_one}
 use Rattle.fedrun_help.specs.Manual.{manual_text}
 
 -- the script for a shell, of these commands
-abbrev pub script_text : List CommandWords → Shell → List ℕ
+abbrev pub script_text : CommandTables → Shell → List ℕ
 script_text commands Bash = bash_text commands
 script_text commands Zsh = zsh_text commands
 script_text commands Fish = fish_text commands
 
 -- what is printed of these commands, or of the one that is asked for
-abbrev pub topic_text : List CommandWords → AboutTopic → List ℕ
+abbrev pub topic_text : CommandTables → AboutTopic → List ℕ
 topic_text commands Commands = help_of_all commands
 topic_text commands (Command command) = help_of_one command.now
 topic_text commands (Completions shell) = script_text commands shell
@@ -25,7 +25,7 @@ topic_text commands Manual = manual_text commands
 
 -- what is printed where this is asked for
 unfoldable pub about_text : AboutRequest → List ℕ
-about_text asked = topic_text asked.commands.now asked.topic
+about_text asked = topic_text asked.commands asked.topic
 
 -- of which commit it is, and whether it is proved
 abbrev pub version_text : List ℕ → List ℕ → List ℕ

@@ -1,8 +1,10 @@
 -- Completions: for each shell a script, by which it knows the commands and their options.
 use Rattle.std.specs.Prelude.{ℕ, Bool, List, [], ◌++◌, codes, flat_map, Option, None, Some, if◌then◌else◌}
 use Rattle.std.specs.Borrow.{Bor}
+use Rattle.fedrun_words.specs.declared.commands.CommandTables.{CommandTables}
 use Rattle.fedrun_words.specs.declared.commands.CommandWords.{CommandWords}
 use Rattle.fedrun_words.specs.declared.commands.OptionWords.{OptionWords}
+use Rattle.fedrun_help.specs.Tables.{of_each}
 use Rattle.fedrun_help.specs.declared.completions.TheConstants.{BEFORE_BASH_NAMES, BEFORE_BASH_COMMANDS}
 use Rattle.fedrun_help.specs.declared.completions.TheConstants.{AFTER_BASH_COMMANDS}
 use Rattle.fedrun_help.specs.declared.completions.TheConstants.{BEFORE_ZSH_NAMES, BEFORE_ZSH_COMMANDS}
@@ -22,10 +24,12 @@ bash_command c =
     codes "      " ++ (c.name.now ++ (codes ") words='--help" ++ (flat_map bash_option c.options.now ++ codes "' ;;\n")))
 
 -- the script for bash
-abbrev pub bash_text : List CommandWords → List ℕ
-bash_text commands =
-    BEFORE_BASH_NAMES.now ++ (flat_map spaced_name commands ++ (BEFORE_BASH_COMMANDS.now
-    ++ (flat_map bash_command commands ++ AFTER_BASH_COMMANDS.now)))
+abbrev pub bash_text : CommandTables → List ℕ
+bash_text tables =
+    BEFORE_BASH_NAMES.now ++ (flat_map spaced_name tables.of_federations.now
+    ++ (flat_map spaced_name tables.others.now ++ (BEFORE_BASH_COMMANDS.now
+    ++ (flat_map bash_command tables.of_federations.now ++ (flat_map bash_command tables.others.now
+    ++ AFTER_BASH_COMMANDS.now)))))
 
 -- for zsh: a command with what it does
 abbrev pub zsh_name : CommandWords → List ℕ
@@ -48,10 +52,12 @@ zsh_command c =
     ++ (flat_map zsh_option c.options.now ++ codes " '*:file:_files' ;;\n")))
 
 -- the script for zsh
-abbrev pub zsh_text : List CommandWords → List ℕ
-zsh_text commands =
-    BEFORE_ZSH_NAMES.now ++ (flat_map zsh_name commands ++ (BEFORE_ZSH_COMMANDS.now
-    ++ (flat_map zsh_command commands ++ AFTER_ZSH_COMMANDS.now)))
+abbrev pub zsh_text : CommandTables → List ℕ
+zsh_text tables =
+    BEFORE_ZSH_NAMES.now ++ (flat_map zsh_name tables.of_federations.now
+    ++ (flat_map zsh_name tables.others.now ++ (BEFORE_ZSH_COMMANDS.now
+    ++ (flat_map zsh_command tables.of_federations.now ++ (flat_map zsh_command tables.others.now
+    ++ AFTER_ZSH_COMMANDS.now)))))
 
 -- for fish: what an option's value is, and an option of the command of this name
 abbrev pub fish_value : Option (Bor (List ℕ)) → Bool → List ℕ
@@ -70,7 +76,6 @@ fish_command c =
     ++ (codes "\"\n" ++ flat_map (fish_option c.name.now) c.options.now))))
 
 -- the script for fish
-abbrev pub fish_text : List CommandWords → List ℕ
-fish_text commands =
-    BEFORE_FISH_NAMES.now ++ (flat_map spaced_name commands ++ (AFTER_FISH_NAMES.now
-    ++ flat_map fish_command commands))
+abbrev pub fish_text : CommandTables → List ℕ
+fish_text tables =
+    BEFORE_FISH_NAMES.now ++ (of_each spaced_name tables ++ (AFTER_FISH_NAMES.now ++ of_each fish_command tables))

@@ -2,8 +2,10 @@
 use Rattle.std.specs.Prelude.{ℕ, List, ◌++◌, codes, flat_map}
 use Rattle.std.specs.Borrow.{Bor}
 use Rattle.fedrun_words.specs.declared.commands.ArgumentWords.{ArgumentWords}
+use Rattle.fedrun_words.specs.declared.commands.CommandTables.{CommandTables}
 use Rattle.fedrun_words.specs.declared.commands.CommandWords.{CommandWords}
 use Rattle.fedrun_words.specs.declared.commands.OptionWords.{OptionWords}
+use Rattle.fedrun_help.specs.Tables.{of_each}
 use Rattle.fedrun_help.specs.Usage.{argument_text, option_text, usage_text}
 use Rattle.fedrun_help.specs.declared.help.TheConstants.{BEFORE, AFTER}
 
@@ -28,8 +30,8 @@ abbrev pub option_lines : OptionWords → List ℕ
 option_lines o = entry_text (option_text o) o.about.now
 
 -- the usage of commands, and what each does
-abbrev pub help_of_all : List CommandWords → List ℕ
-help_of_all commands = BEFORE.now ++ (flat_map summary_text commands ++ AFTER.now)
+abbrev pub help_of_all : CommandTables → List ℕ
+help_of_all tables = BEFORE.now ++ (of_each summary_text tables ++ AFTER.now)
 
 -- the usage of a command, what it does, and what is given to it
 abbrev pub help_of_one : CommandWords → List ℕ

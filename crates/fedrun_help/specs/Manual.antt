@@ -2,8 +2,10 @@
 use Rattle.std.specs.Prelude.{ℕ, List, ◌++◌, codes, flat_map}
 use Rattle.std.specs.Borrow.{Bor}
 use Rattle.fedrun_words.specs.declared.commands.ArgumentWords.{ArgumentWords}
+use Rattle.fedrun_words.specs.declared.commands.CommandTables.{CommandTables}
 use Rattle.fedrun_words.specs.declared.commands.CommandWords.{CommandWords}
 use Rattle.fedrun_words.specs.declared.commands.OptionWords.{OptionWords}
+use Rattle.fedrun_help.specs.Tables.{of_each}
 use Rattle.fedrun_help.specs.Usage.{argument_text, option_text, usage_text}
 use Rattle.fedrun_help.specs.declared.manual.TheConstants.{BEFORE, AFTER}
 
@@ -30,5 +32,5 @@ command_part c =
     ++ (flat_map argument_part c.may_follow.now ++ (flat_map option_part c.options.now ++ codes ".RE\n")))))))))
 
 -- the manual page
-abbrev pub manual_text : List CommandWords → List ℕ
-manual_text commands = BEFORE.now ++ (flat_map command_part commands ++ AFTER.now)
+abbrev pub manual_text : CommandTables → List ℕ
+manual_text tables = BEFORE.now ++ (of_each command_part tables ++ AFTER.now)

@@ -2,7 +2,7 @@
 ghost use Rattle.std.specs.Prelude.{◌≡◌};
 ghost use Rattle.fedrun_help.specs.Completions.{zsh_value, fish_value};
 
-use fedrun_words::{CommandWords, OptionWords};
+use fedrun_words::{CommandTables, CommandWords, OptionWords};
 use std::fmt;
 
 const BEFORE_BASH_NAMES: &str = "# Which words bash may complete behind fedrun.
@@ -67,60 +67,75 @@ const AFTER_FISH_NAMES: &str = "'\n";
 
 /// For bash.
 #[derive(Drop)]
-pub(crate) struct BashCompletions<'a>(pub &'a [CommandWords]);
+pub(crate) struct BashCompletions(pub CommandTables);
 
-impl fmt::Display for BashCompletions<'_> {
+impl fmt::Display for BashCompletions {
     ghost use Rattle.std.specs.Prelude.{Some};
     ghost use Rattle.fedrun_help.specs.Completions.{bash_text};
 
-    ghost output = { λ script. Some (bash_text script.0.now) };
+    ghost output = { λ script. Some (bash_text script.0) };
 
     fn fmt<W: fmt::Write>(&self, f: &mut fmt::Formatter<W>) -> fmt::Result {
         let first = BEFORE_BASH_NAMES;
-        let names = Names(self.0);
+        let names = Names(self.0.of_federations);
+        let other_names = Names(self.0.others);
         let second = BEFORE_BASH_COMMANDS;
-        let commands = BashCommands(self.0);
+        let commands = BashCommands(self.0.of_federations);
+        let other_commands = BashCommands(self.0.others);
         let third = AFTER_BASH_COMMANDS;
-        write!(f, "{first}{names}{second}{commands}{third}")
+        write!(
+            f,
+            "{first}{names}{other_names}{second}{commands}{other_commands}{third}"
+        )
     }
 }
 
 /// For zsh.
 #[derive(Drop)]
-pub(crate) struct ZshCompletions<'a>(pub &'a [CommandWords]);
+pub(crate) struct ZshCompletions(pub CommandTables);
 
-impl fmt::Display for ZshCompletions<'_> {
+impl fmt::Display for ZshCompletions {
     ghost use Rattle.std.specs.Prelude.{Some};
     ghost use Rattle.fedrun_help.specs.Completions.{zsh_text};
 
-    ghost output = { λ script. Some (zsh_text script.0.now) };
+    ghost output = { λ script. Some (zsh_text script.0) };
 
     fn fmt<W: fmt::Write>(&self, f: &mut fmt::Formatter<W>) -> fmt::Result {
         let first = BEFORE_ZSH_NAMES;
-        let names = ZshNames(self.0);
+        let names = ZshNames(self.0.of_federations);
+        let other_names = ZshNames(self.0.others);
         let second = BEFORE_ZSH_COMMANDS;
-        let commands = ZshCommands(self.0);
+        let commands = ZshCommands(self.0.of_federations);
+        let other_commands = ZshCommands(self.0.others);
         let third = AFTER_ZSH_COMMANDS;
-        write!(f, "{first}{names}{second}{commands}{third}")
+        write!(
+            f,
+            "{first}{names}{other_names}{second}{commands}{other_commands}{third}"
+        )
     }
 }
 
 /// For fish.
 #[derive(Drop)]
-pub(crate) struct FishCompletions<'a>(pub &'a [CommandWords]);
+pub(crate) struct FishCompletions(pub CommandTables);
 
-impl fmt::Display for FishCompletions<'_> {
+impl fmt::Display for FishCompletions {
     ghost use Rattle.std.specs.Prelude.{Some};
     ghost use Rattle.fedrun_help.specs.Completions.{fish_text};
 
-    ghost output = { λ script. Some (fish_text script.0.now) };
+    ghost output = { λ script. Some (fish_text script.0) };
 
     fn fmt<W: fmt::Write>(&self, f: &mut fmt::Formatter<W>) -> fmt::Result {
         let first = BEFORE_FISH_NAMES;
-        let names = Names(self.0);
+        let names = Names(self.0.of_federations);
+        let other_names = Names(self.0.others);
         let second = AFTER_FISH_NAMES;
-        let commands = FishCommands(self.0);
-        write!(f, "{first}{names}{second}{commands}")
+        let commands = FishCommands(self.0.of_federations);
+        let other_commands = FishCommands(self.0.others);
+        write!(
+            f,
+            "{first}{names}{other_names}{second}{commands}{other_commands}"
+        )
     }
 }
 

@@ -1,6 +1,6 @@
 //! Help, as it is printed for those who read it: of all commands, or of one.
 use crate::usage::{Argument, OptionText, Usage};
-use fedrun_words::{ArgumentWords, CommandWords, OptionWords};
+use fedrun_words::{ArgumentWords, CommandTables, CommandWords, OptionWords};
 use std::fmt;
 
 /// What stands before the commands.
@@ -20,19 +20,20 @@ to a command, and what it means: fedrun help COMMAND, or fedrun COMMAND --help. 
 
 /// The usage of commands, and what each does.
 #[derive(Drop)]
-pub(crate) struct HelpOfAll<'a>(pub &'a [CommandWords]);
+pub(crate) struct HelpOfAll(pub CommandTables);
 
-impl fmt::Display for HelpOfAll<'_> {
+impl fmt::Display for HelpOfAll {
     ghost use Rattle.std.specs.Prelude.{Some};
     ghost use Rattle.fedrun_help.specs.Help.{help_of_all};
 
-    ghost output = { λ help. Some (help_of_all help.0.now) };
+    ghost output = { λ help. Some (help_of_all help.0) };
 
     fn fmt<W: fmt::Write>(&self, f: &mut fmt::Formatter<W>) -> fmt::Result {
         let before = BEFORE;
-        let commands = Summaries(self.0);
+        let commands = Summaries(self.0.of_federations);
+        let others = Summaries(self.0.others);
         let after = AFTER;
-        write!(f, "{before}{commands}{after}")
+        write!(f, "{before}{commands}{others}{after}")
     }
 }
 

@@ -1,10 +1,14 @@
 //! What is told of words that are no command, beside that they are none: which word isn't taken, what was expected, and
 //! the usage.
+ghost use Rattle.std.specs.Prelude.{◌≡◌, map, string_bytes};
+ghost use Rattle.fedrun_help.specs.Hints.{said_by, said_first, words_left};
+
 use crate::usage::Usage;
 use clap::ArgMatches;
 use clap::error::{Error, ErrorKind};
 use fedrun_words::{
-    CommandKind, CommandWords, all_commands, command_line, count, given_value, value_range,
+    CommandKind, CommandWords, all_commands, command_line, count, given_value, host_and_port,
+    value_range,
 };
 use std::alloc::Global;
 use std::fmt;
@@ -17,7 +21,8 @@ pub enum WordsHint<'a> {
     Unparsed(Error),
     /// They can, but a value isn't what it has to be.
     Refused(RefusedValue<'a>),
-    /// IN and SCHEDULE of this command stand together, and something is given to it that one of them lacks.
+    /// IN and SCHEDULE of this command stand together, and something is given to it that one of them lacks, or that is
+    /// for none.
     Apart(&'static CommandWords),
     /// RANGE and FOLDER of this command stand together, and one of them is given.
     OneOfTwo(&'static CommandWords),
@@ -52,7 +57,11 @@ impl fmt::Display for WordsHint<'_> {
                 let usage = Usage(command);
                 write!(
                     f,
-                    "error: IN and SCHEDULE stand together, and closing rounds are for them\n\nUsage: {usage}\n"
+                    "error: IN and SCHEDULE stand together, closing rounds and steps are for them, "
+                )?;
+                write!(
+                    f,
+                    "and reactions for a federation alone\n\nUsage: {usage}\n"
                 )
             }
             WordsHint::OneOfTwo(command) => {
@@ -66,12 +75,31 @@ impl fmt::Display for WordsHint<'_> {
     }
 }
 
-/// The words without a first one that asks for hints or for none, and whether hints are asked for.
-pub fn asks_for_hints(words: &[String]) -> (&[String], bool) {
+/// The words without a first one that asks for hints or for none, and which of these it asks for; None where it says
+/// nothing of them.
+pub fn asks_for_hints(words: &[String]) -> (&[String], Option<bool>)
+    ensures left { map string_bytes result.0.now ≡ words_left (map string_bytes words.now) }
+    ensures said { result.1 ≡ said_first (map string_bytes words.now) }
+{
     match words {
-        [first, rest @ ..] if first.as_str() == "--hints" => (rest, true),
-        [first, rest @ ..] if first.as_str() == "--hints=never" => (rest, false),
-        _ => (words, false),
+        [first, rest @ ..] => match said_by(first.as_str()) {
+            Some(wanted) => (rest, Some(wanted)),
+            None => (words, None),
+        },
+        [] => (words, None),
+    }
+}
+
+// What a word says of hints, if it says anything.
+fn said_by(word: &str) -> Option<bool>
+    ensures { result ≡ said_by word.now }
+{
+    if word == "--hints" {
+        Some(true)
+    } else if word == "--hints=never" {
+        Some(false)
+    } else {
+        None
     }
 }
 
@@ -89,7 +117,7 @@ pub fn words_hint<'a>(alloc: Global, words: &'a [String]) -> Option<WordsHint<'a
 
 // The same of words that can be parsed.
 fn hint_of_parsed<'a>(matches: &ArgMatches<'a>) -> Option<WordsHint<'a>> {
-    for command in all_commands() {
+    for command in all_commands().iter() {
         if let Some(given) = matches.subcommand_matches(command.name) {
             return match refused_value(command, given) {
                 Some(refused) => Some(WordsHint::Refused(refused)),
@@ -148,13 +176,14 @@ fn refused_at<'a>(
 // What a value that is called so has to be, where this one isn't that.
 fn wanted(what: &str, value: &str) -> Option<&'static str> {
     match what {
-        "TURNS" | "N" | "SECONDS" if count(value).is_none() => {
+        "TURNS" | "N" | "STEP" | "SECONDS" if count(value).is_none() => {
             Some("a whole number from 0 to 4294967295, in digits")
         }
         "V" if count(value) != Some(1) && count(value) != Some(2) => Some("1 or 2"),
-        "ADDRESS:PORT" if value.parse::<SocketAddr>().is_err() => Some(
-            "an IPv4 or IPv6 address and a port, as 127.0.0.1:7000 or [::1]:7000",
-        ),
+        "ADDRESS:PORT" if value.parse::<SocketAddr>().is_err() && host_and_port(value).is_none() =>
+            Some(
+                "an address or a host's name, and a port, as 127.0.0.1:7000, [::1]:7000 or localhost:7000",
+            ),
         "disk|system|no" if !["disk", "system", "no"].contains(&value) => {
             Some("disk, system or no")
         }
@@ -174,11 +203,18 @@ fn wanted(what: &str, value: &str) -> Option<&'static str> {
     }
 }
 
-// Whether something is given to `draw` that SCHEDULE lacks.
+// Whether something is given to `draw` that SCHEDULE lacks, or SCHEDULE with what is for a federation alone.
 fn are_apart(command: &CommandWords, given: &ArgMatches<'_>) -> bool {
-    command.kind == CommandKind::Draw
-        && given.get_str("SCHEDULE").is_none()
-        && (given.get_str("IN").is_some() || given.get_str("until-stuck").is_some())
+    if command.kind != CommandKind::Draw {
+        return false;
+    }
+    if given.get_str("SCHEDULE").is_some() {
+        given.get_flag("reactions")
+    } else {
+        ["IN", "until-stuck", "from", "to"]
+            .iter()
+            .any(|name| given.get_str(*name).is_some())
+    }
 }
 
 // Whether values are given to `expand` and no folder, or a folder and no values.

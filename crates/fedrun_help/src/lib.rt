@@ -1,4 +1,4 @@
-//! What the program says of its own commands: help, completions for shells and the manual page, all from the one table
+//! What the program says of its own commands: help, completions for shells and the manual page, all from the tables
 //! of commands in `fedrun_words`.
 //!
 //! Promise to the layer above: what a writer gains is a prefix of the text of `specs/About`, and all of it where that

@@ -1,6 +1,6 @@
 //! The manual page, as `man` reads it.
 use crate::usage::{Argument, OptionText, Usage};
-use fedrun_words::{ArgumentWords, CommandWords, OptionWords};
+use fedrun_words::{ArgumentWords, CommandTables, CommandWords, OptionWords};
 use std::fmt;
 
 const BEFORE: &str = ".TH FEDRUN 1
@@ -35,19 +35,20 @@ A fault is told on standard error, on one line.
 
 /// The manual page.
 #[derive(Drop)]
-pub(crate) struct Manual<'a>(pub &'a [CommandWords]);
+pub(crate) struct Manual(pub CommandTables);
 
-impl fmt::Display for Manual<'_> {
+impl fmt::Display for Manual {
     ghost use Rattle.std.specs.Prelude.{Some};
     ghost use Rattle.fedrun_help.specs.Manual.{manual_text};
 
-    ghost output = { λ manual. Some (manual_text manual.0.now) };
+    ghost output = { λ manual. Some (manual_text manual.0) };
 
     fn fmt<W: fmt::Write>(&self, f: &mut fmt::Formatter<W>) -> fmt::Result {
         let before = BEFORE;
-        let commands = Commands(self.0);
+        let commands = Commands(self.0.of_federations);
+        let others = Commands(self.0.others);
         let after = AFTER;
-        write!(f, "{before}{commands}{after}")
+        write!(f, "{before}{commands}{others}{after}")
     }
 }
 

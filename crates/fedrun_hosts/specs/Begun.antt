@@ -2,13 +2,15 @@
 -- file holds is said where its bytes are known.
 use Rattle.std.specs.Prelude.{◌≡◌, ℕ, ◌<◌, List, [], ◌∷◌, length, Option, None, Some, IfSome}
 use Rattle.std.specs.Borrow.{Bor}
-use Rattle.std.specs.declared.net.ip_addr.IpAddr.{IpAddr}
+use Rattle.std.specs.Net.Socket.{socket_ip}
 use Rattle.wires_greeting.specs.declared.key.TheConstants.{MOST_SECRET}
 use Rattle.wires_greeting.specs.declared.key.SecretFault.{SecretFault}
 use Rattle.wires_greeting.specs.declared.key.SecretFault.TheVariants.{TooLong, Missing}
 use Rattle.wires_greeting.specs.Files.{files_digest}
 use Rattle.wires_greeting.specs.Hmac.{key_block}
 use Rattle.wires_greeting.specs.Secret.{secret_fault, IsLoopback}
+use Rattle.wires_hosts.specs.declared.host_address.HostAddress.{HostAddress}
+use Rattle.wires_hosts.specs.declared.host_address.HostAddress.TheVariants.{At, Named}
 use Rattle.fedrun_words.specs.declared.fault.Fault.{Fault}
 use Rattle.fedrun_words.specs.declared.fault.Fault.TheVariants.{More}
 use Rattle.fedrun_files.specs.declared.named.FileFault.TheVariants.{Unreadable, Memory}
@@ -33,11 +35,16 @@ pub record IsKeyOfFile (known : Option (List ℕ)) (key : List ℕ) : Type 0 whe
   pub is_secret : secret_fault bytes ≡ None
   pub key_is : key ≡ key_block bytes
 
+-- an address of loopback; a host's name is none
+abbrev pub IsOfThisMachine : HostAddress → Type 0
+IsOfThisMachine (At address) = IsLoopback (socket_ip address)
+IsOfThisMachine (Named host port) = ⊥
+
 -- the key of a node with this address: that of its secret file, or where it is given none, the empty one, for an address
 -- of loopback
-abbrev pub IsKeyOf : Contents → IpAddr → Option (Bor (List ℕ)) → List ℕ → Type 0
+abbrev pub IsKeyOf : Contents → HostAddress → Option (Bor (List ℕ)) → List ℕ → Type 0
 IsKeyOf contents address (Some name) = IsKeyOfFile (contents name.now)
-IsKeyOf contents address None = λ key. IsLoopback address × (key ≡ key_block [])
+IsKeyOf contents address None = λ key. IsOfThisMachine address × (key ≡ key_block [])
 
 -- why there is no key of a secret file: it can't be read, it has too many bytes, or its bytes are no secret
 pub data IsSecretFault (name : Bor (List ℕ)) (known : Option (List ℕ)) (answered : List Answer → Type 0)
@@ -53,6 +60,6 @@ pub data IsSecretFault (name : Bor (List ℕ)) (known : Option (List ℕ)) (answ
 
 -- why a node with this address has no key: there is none of its secret file, or it is given none, and the address isn't
 -- one of loopback
-abbrev pub IsKeyFault : Contents → (List Answer → Type 0) → IpAddr → Option (Bor (List ℕ)) → Fault HostFault → Type 0
+abbrev pub IsKeyFault : Contents → (List Answer → Type 0) → HostAddress → Option (Bor (List ℕ)) → Fault HostFault → Type 0
 IsKeyFault contents answered address (Some name) = IsSecretFault name (contents name.now) answered
-IsKeyFault contents answered address None = λ fault. (¬ IsLoopback address) × (fault ≡ More (Secret Missing))
+IsKeyFault contents answered address None = λ fault. (¬ IsOfThisMachine address) × (fault ≡ More (Secret Missing))

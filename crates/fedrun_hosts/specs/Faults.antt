@@ -15,6 +15,8 @@ use Rattle.files_logs.specs.declared.log_fault.LogFault.TheVariants as logs
 use Rattle.fedrun_logs.specs.declared.not_kept.NotKept.{NotKept}
 use Rattle.fedrun_logs.specs.declared.not_kept.NotKept.TheVariants as kept
 use Rattle.fedrun_hosts.specs.declared.fault.HostFault.{HostFault}
+use Rattle.fedrun_hosts.specs.declared.unfinished.Unfinished.{Unfinished}
+use Rattle.fedrun_hosts.specs.declared.unfinished.Unfinished.TheVariants.{OutOfPatience, Stopped}
 use Rattle.fedrun_hosts.specs.declared.fault.HostFault.TheVariants.{Secret, NoSuchFederate, ReportExists, PartExists}
 use Rattle.fedrun_hosts.specs.declared.fault.HostFault.TheVariants.{CannotListen, Refused, NotProved, NotFinished}
 use Rattle.fedrun_hosts.specs.declared.fault.HostFault.TheVariants.{OtherHistory, OtherLog, Damaged, Unkept}
@@ -36,11 +38,11 @@ host_status (PartExists name) = 1
 host_status (OtherLog name) = 1
 host_status (Damaged name) = 1
 host_status (Unkept name fault) = 3
-host_status CannotListen = 3
+host_status (CannotListen why) = 3
 host_status (Refused fault) = 1
 host_status NotProved = 1
 host_status OtherHistory = 1
-host_status NotFinished = 3
+host_status (NotFinished why) = 3
 host_status (Unwritten fault) = 3
 host_status (Unsaved name fault) = 3
 host_status (Memory memory) = 3
@@ -61,22 +63,28 @@ refusal_name dial.NoSuchFederate = codes "NoSuchFederate"
 refusal_name dial.Finished = codes "Refused"
 refusal_name dial.NotAllowed = codes "NotAllowed"
 
+-- why a federate ended that wasn't refused, whose last attempt to connect came to this: it gave up, or else stopped
+abbrev pub unfinished_by : Bool → Option DialFault → Unfinished
+unfinished_by gave_up last = if gave_up then OutOfPatience last else Stopped last
+
 -- why a federate's run isn't finished, as its last attempt to connect was answered; none where that told it that the
 -- run is finished
-abbrev pub fault_of_attempt : Option DialFault → Option HostFault
-fault_of_attempt None = Some NotFinished
-fault_of_attempt (Some dial.NotConnected) = Some NotFinished
-fault_of_attempt (Some dial.NoRandom) = Some NotFinished
-fault_of_attempt (Some dial.NoAnswer) = Some NotFinished
-fault_of_attempt (Some dial.NotProved) = Some NotProved
-fault_of_attempt (Some dial.OtherFiles) = Some (Refused dial.OtherFiles)
-fault_of_attempt (Some dial.NoSuchFederate) = Some (Refused dial.NoSuchFederate)
-fault_of_attempt (Some dial.Finished) = None
-fault_of_attempt (Some dial.NotAllowed) = Some (Refused dial.NotAllowed)
+abbrev pub fault_of_attempt : Bool → Option DialFault → Option HostFault
+fault_of_attempt gave_up None = Some (NotFinished (unfinished_by gave_up None))
+fault_of_attempt gave_up (Some dial.NotConnected) =
+    Some (NotFinished (unfinished_by gave_up (Some dial.NotConnected)))
+fault_of_attempt gave_up (Some dial.NoRandom) = Some (NotFinished (unfinished_by gave_up (Some dial.NoRandom)))
+fault_of_attempt gave_up (Some dial.NoAnswer) = Some (NotFinished (unfinished_by gave_up (Some dial.NoAnswer)))
+fault_of_attempt gave_up (Some dial.NotProved) = Some NotProved
+fault_of_attempt gave_up (Some dial.OtherFiles) = Some (Refused dial.OtherFiles)
+fault_of_attempt gave_up (Some dial.NoSuchFederate) = Some (Refused dial.NoSuchFederate)
+fault_of_attempt gave_up (Some dial.Finished) = None
+fault_of_attempt gave_up (Some dial.NotAllowed) = Some (Refused dial.NotAllowed)
 
 -- the same, where it is known besides whether the coordinator spoke of another history
-abbrev pub fault_by : Bool → Option DialFault → Option HostFault
-fault_by shows_other_history last = if shows_other_history then Some OtherHistory else fault_of_attempt last
+abbrev pub fault_by : Bool → Bool → Option DialFault → Option HostFault
+fault_by shows_other_history gave_up last =
+    if shows_other_history then Some OtherHistory else fault_of_attempt gave_up last
 
 -- why a node's log isn't opened or takes nothing more, of the report of this name
 abbrev pub fault_of_log : Bor (List ℕ) → NotKept → HostFault
@@ -102,11 +110,11 @@ printed_host_fault (OtherLog name) = codes "121 OtherLog " ++ temporary_name nam
 printed_host_fault (Damaged name) = codes "122 Damaged " ++ temporary_name name.now
 printed_host_fault (Unkept name fault) =
     codes "120 Unsaved " ++ temporary_name name.now ++ codes ": " ++ keeping.text_of fault
-printed_host_fault CannotListen = codes "117 CannotListen"
+printed_host_fault (CannotListen why) = codes "117 CannotListen"
 printed_host_fault (Refused fault) = codes "118 " ++ refusal_name fault
 printed_host_fault NotProved = codes "119 NotProved"
 printed_host_fault OtherHistory = codes "123 OtherHistory"
-printed_host_fault NotFinished = codes "not finished"
+printed_host_fault (NotFinished why) = codes "not finished"
 printed_host_fault (Unwritten fault) = write_text fault
 printed_host_fault (Unsaved name fault) = codes "120 Unsaved " ++ name.now ++ codes ": " ++ text_of fault
 printed_host_fault (Memory memory) = memory_text

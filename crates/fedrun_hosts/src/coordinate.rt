@@ -10,12 +10,15 @@ ghost use Rattle.fedrun_hosts.specs.Waits.{telling_nanos};
 
 use crate::fault::HostFault;
 use crate::gathering::{Replayed, gather_replayed, replayed_desk};
+use crate::listen_fault::ListenFault;
 use crate::loaded::{Loaded, load};
 use crate::logged::{Begun, begin, fault_of, finish, head_of};
 use crate::patience::{telling_patience, watcher};
 use crate::report::{reserve_report, save_report};
 use crate::request::NodeRequest;
 use crate::saying::{say_finished, say_listening};
+use crate::unfinished::Unfinished;
+use crate::watched::tell_names;
 use coordinator::Coordinator;
 use crossbeam_channel::Receiver;
 use desk::{Desk, Shared};
@@ -33,14 +36,17 @@ use node::Node;
 use node_journal::Journal;
 use std::alloc::{AllocError, Global};
 use std::io::Write;
-use std::net::{Net, SocketAddr, TcpListener, TcpStream};
+use std::net::{Net, TcpListener, TcpStream};
 use std::random::RandomSource;
 use std::sync::Wait;
 use std::time::{Clock, Duration};
 use wires::{
     CoordinatorLines, NetRuntime, RunFault, WorkerResult, channels, gather_desk, run_coordinator,
 };
-use wires_hosts::{Barrier, Heard, HostAcceptor, HostEntrance, NoBarrier, Unkept, listen_at};
+use wires_hosts::{
+    Barrier, Happening, Heard, HostAcceptor, HostAddress, HostEntrance, NoBarrier, Teller, Unkept,
+    listen_at,
+};
 use wires_transports::{Accepted, Acceptor, Ending};
 use wires_workers::NoGate;
 
@@ -54,6 +60,9 @@ use wires_workers::NoGate;
 /// Without one it writes its report in either case, and federates are told that the run is finished once the report is
 /// saved, and not before: where it is lost, none of them has ended as if all were well. Its report's name is reserved
 /// before anybody can connect, and stays so where it ends in the midst.
+///
+/// Who is let in and who isn't, whose connection has ended, that the run is finished and who has heard so, or that it
+/// gives up, is told by `teller`.
 pub fn coordinate<
     'a,
     R: NetRuntime + RandomSource,
@@ -70,15 +79,17 @@ pub fn coordinate<
     disk: &mut D,
     logs: &mut L,
     out: &mut O,
+    teller: &Teller,
 ) -> Result<(), Fault<'a, HostFault<'a>>>
     ensures { OnOk result (HasCoordinated (F.contents files.old)
         V.is_known (L.holds logs.old) node.now
         (D.contents disk.old) (D.contents disk.new)) }
 {
-    let loaded = match load(alloc, node, files) {
+    let loaded = match load(alloc, node, files, teller) {
         Ok(loaded) => loaded,
         Err(fault) => return Err(fault),
     };
+    tell_names(rt, alloc, &loaded);
     match node.log {
         Some(kept_by) => coordinate_logging(rt, alloc, node, &loaded, kept_by, disk, logs, out),
         None => coordinate_reporting(rt, alloc, node, &loaded, disk, logs, out),
@@ -143,7 +154,7 @@ fn coordinate_reporting<
             let _ = tell_finished(rt, alloc, node, loaded, listeners.for_telling);
             say_finished(out)
         }
-        Ok(()) => Err(Fault::More(HostFault::NotFinished)),
+        Ok(()) => Err(not_finished()),
         Err(fault) => Err(fault),
     }
 }
@@ -291,7 +302,7 @@ fn ran_logging<'n, 'a, R: NetRuntime + RandomSource, V: Device + Drop + Send>(
     };
     match is_finished(alloc, replayed, results) {
         Ok(true) => Ok(file),
-        Ok(false) => Err(Fault::More(HostFault::NotFinished)),
+        Ok(false) => Err(not_finished()),
         Err(why) => Err(fault_of_run(why)),
     }
 }
@@ -332,7 +343,7 @@ fn say_if_finished<'a, O: Write>(
 {
     match replayed_coordinator(alloc, &loaded.sources.plan, log.journal) {
         Ok(desk) if desk.station().node().finished() => say_finished(out),
-        Ok(_) => Err(Fault::More(HostFault::NotFinished)),
+        Ok(_) => Err(not_finished()),
         Err(memory) => Err(Fault::More(HostFault::Memory(memory))),
     }
 }
@@ -389,14 +400,16 @@ struct Listeners {
 // Listens at the node's address, once it is said where that is.
 fn listen<'a, R: Net<Stream = TcpStream, Listener = TcpListener>, O: Write>(
     rt: &R,
-    address: SocketAddr,
+    address: HostAddress,
     out: &mut O,
 ) -> Result<Listeners, Fault<'a, HostFault<'a>>> {
-    let Ok(for_run) = listen_at(rt, address) else {
-        return Err(Fault::More(HostFault::CannotListen));
+    let for_run = match listen_at(rt, address) {
+        Ok(listener) => listener,
+        Err(error) => return Err(Fault::More(HostFault::CannotListen(ListenFault::of(&error)))),
     };
-    let Ok(for_telling) = for_run.try_clone() else {
-        return Err(Fault::More(HostFault::CannotListen));
+    let for_telling = match for_run.try_clone() {
+        Ok(listener) => listener,
+        Err(error) => return Err(Fault::More(HostFault::CannotListen(ListenFault::of(&error)))),
     };
     match say_listening(&for_run, out) {
         Ok(()) => Ok(Listeners {
@@ -419,7 +432,7 @@ fn run_listening<'n, R: NetRuntime + RandomSource, B: Barrier + Sync>(
     barrier: &B,
 ) -> Result<Vec<WorkerResult>, RunFault> {
     let count = loaded.sources.plan.federate_count();
-    let heard = Heard::new(alloc, count)?;
+    let heard = Heard::watched(alloc, count, loaded.teller.another())?;
     let barrier = Lent { barrier };
     let ending = Ending::new();
     if shared.finished(rt) {
@@ -476,7 +489,8 @@ fn tell_finished<R: Wait + Clock + RandomSource>(
     listener: TcpListener,
 ) -> Result<(), RunFault> {
     let count = loaded.sources.plan.federate_count();
-    let heard = Heard::new(alloc, count)?;
+    let heard = Heard::watched(alloc, count, loaded.teller.another())?;
+    heard.tell(rt, rt, Happening::Finished);
     // Nobody is let in any more, so nobody reads.
     let (readers, _) = channels(alloc, count)?;
     let entrance = telling_entrance(node, loaded, listener);
@@ -510,10 +524,17 @@ fn telling_entrance(node: &NodeRequest<'_>, loaded: &Loaded, listener: TcpListen
     entrance(loaded, listener, telling_patience(node))
 }
 
+// That a coordinator isn't finished, as the fault that is printed: whoever ends its run before gives up.
+fn not_finished<'a>() -> Fault<'a, HostFault<'a>> {
+    Fault::More(HostFault::NotFinished(Unfinished::OutOfPatience(None)))
+}
+
 /// Why there is no desk, as the fault that is printed.
 pub(crate) fn fault_of_run<'a>(why: RunFault) -> Fault<'a, HostFault<'a>> {
     match why {
-        RunFault::NotFinished(_) => Fault::More(HostFault::NotFinished),
+        RunFault::NotFinished(cause) => {
+            Fault::More(HostFault::NotFinished(Unfinished::NotRun(cause)))
+        }
         RunFault::Memory => Fault::More(HostFault::Memory(desk::Memory)),
     }
 }

@@ -1,6 +1,8 @@
 ghost use Rattle.std.specs.Prelude.{◌≡◌};
 ghost use Rattle.fedrun_hosts.specs.Faults.{refusal_name};
 
+use crate::listen_fault::ListenFault;
+use crate::unfinished::Unfinished;
 use fedrun_words::MoreFault;
 use files_keeping::KeepFault;
 use files_reports::WriteFault;
@@ -23,8 +25,9 @@ pub enum HostFault<'a> {
     /// was ended before it wrote it. It is left as it is, and nothing was begun. Once no such node runs and the run is
     /// begun anew, it is removed by hand, or another name is given.
     PartExists(&'a str),
-    /// Nothing can listen at the address. Nothing was begun. Another address is given, or who listens there is ended.
-    CannotListen,
+    /// Nothing can listen at the address, and the inner fault says why. Nothing was begun. Another address is given, or
+    /// who listens there is ended.
+    CannotListen(ListenFault),
     /// The file in which the node's log would go on is another one: of other files, another node or other rules. It is
     /// left as it is, and nothing was begun. Another name is given, or the words that belong to it.
     OtherLog(&'a str),
@@ -45,9 +48,8 @@ pub enum HostFault<'a> {
     /// The coordinator acknowledged a signal that this federate never offered to it: one of the two was begun anew
     /// without what it knew, or from an older copy of that. The report was written.
     OtherHistory,
-    /// The run isn't finished: nobody was heard for so long, or the federate's turns were made before, or a thread
-    /// couldn't be started. The report was written, where there was a node.
-    NotFinished,
+    /// The run isn't finished, and this is why. The report was written, where there was a node.
+    NotFinished(Unfinished),
     /// The report has no spelling, and the inner fault says why. None was written.
     Unwritten(WriteFault),
     /// The report's name couldn't be reserved before anything was begun, or the report couldn't be written under it at
@@ -78,8 +80,8 @@ impl MoreFault for HostFault<'_> {
             | HostFault::Refused(_)
             | HostFault::NotProved
             | HostFault::OtherHistory => 1,
-            HostFault::CannotListen
-            | HostFault::NotFinished
+            HostFault::CannotListen(_)
+            | HostFault::NotFinished(_)
             | HostFault::Unwritten(_)
             | HostFault::Unsaved(_, _)
             | HostFault::Unkept(_, _)
@@ -107,11 +109,11 @@ impl fmt::Display for HostFault<'_> {
             HostFault::OtherLog(name) => write!(f, "121 OtherLog {name}.part"),
             HostFault::Damaged(name) => write!(f, "122 Damaged {name}.part"),
             HostFault::Unkept(name, fault) => write!(f, "120 Unsaved {name}.part: {fault}"),
-            HostFault::CannotListen => write!(f, "117 CannotListen"),
+            HostFault::CannotListen(_) => write!(f, "117 CannotListen"),
             HostFault::Refused(fault) => write!(f, "118 {}", refusal_name(*fault)),
             HostFault::NotProved => write!(f, "119 NotProved"),
             HostFault::OtherHistory => write!(f, "123 OtherHistory"),
-            HostFault::NotFinished => write!(f, "not finished"),
+            HostFault::NotFinished(_) => write!(f, "not finished"),
             HostFault::Unwritten(fault) => write!(f, "{fault}"),
             HostFault::Unsaved(name, fault) => write!(f, "120 Unsaved {name}: {fault}"),
             HostFault::Memory(memory) => write!(f, "{memory}"),

@@ -18,6 +18,7 @@ use crate::patience::watcher;
 use crate::report::{reserve_report, save_report};
 use crate::request::NodeRequest;
 use crate::saying::say_finished;
+use crate::unfinished::Unfinished;
 use desk::{Memory, Shared};
 use federate::Federate;
 use fedrun_files::Files;
@@ -37,7 +38,9 @@ use std::alloc::Global;
 use std::io::Write;
 use std::random::RandomSource;
 use wires::{FederateLines, FederateRun, NetRuntime, RunFault, Terms, gather_desk, run_federate};
-use wires_hosts::{Barrier, DialFault, FederateHost, Heard, HostDial, LastConnection, NoBarrier};
+use wires_hosts::{
+    Barrier, DialFault, FederateHost, Heard, HostDial, LastConnection, NoBarrier, Teller,
+};
 use wires_transports::Ending;
 use wires_workers::NoGate;
 
@@ -50,6 +53,8 @@ use wires_workers::NoGate;
 ///
 /// Without one its report is written at its end, whatever came of the run. The report's name is reserved before it
 /// connects, and stays so where it ends in the midst: so it isn't begun anew by the same words, without what it knew.
+///
+/// What happens to its connections, and that it gives up, is told by `teller`.
 pub fn join<
     'a,
     R: NetRuntime + RandomSource,
@@ -68,12 +73,13 @@ pub fn join<
     disk: &mut D,
     logs: &mut L,
     out: &mut O,
+    teller: &Teller,
 ) -> Result<(), Fault<'a, HostFault<'a>>>
     ensures { OnOk result (HasJoined (F.contents files.old)
         V.is_known (L.holds logs.old) node.now name.entry.now
         (D.contents disk.old) (D.contents disk.new)) }
 {
-    let loaded = match load(alloc, node, files) {
+    let loaded = match load(alloc, node, files, teller) {
         Ok(loaded) => loaded,
         Err(fault) => return Err(fault),
     };
@@ -122,7 +128,7 @@ fn join_reporting<
         joined.now.node.now.report.now (D.contents disk.old) (D.contents disk.new)) }
 {
     let Joined { node, loaded, .. } = *joined;
-    let Ok(heard) = Heard::new(alloc, 0) else {
+    let Ok(heard) = Heard::watched(alloc, 0, joined.loaded.teller.another()) else {
         return Err(Fault::More(HostFault::Memory(desk::Memory)));
     };
     let reserved = match reserve_report(alloc, node.report, disk, logs) {
@@ -158,7 +164,11 @@ fn join_reporting<
         node.report,
         disk,
     ) {
-        Ok(()) => match fault_by(shows_other_history, heard.last_fault()) {
+        Ok(()) => match fault_by(
+            shows_other_history,
+            heard.has_given_up(),
+            heard.last_fault(),
+        ) {
             None => say_finished(out),
             Some(fault) => Err(Fault::More(fault)),
         },
@@ -260,7 +270,7 @@ fn went_on<'a, R: NetRuntime + RandomSource, V: Device + Drop + Send>(
 ) -> Result<LogFile<V>, Fault<'a, HostFault<'a>>>
     requires { IsGiven joined.now }
 {
-    let Ok(heard) = Heard::new(alloc, 0) else {
+    let Ok(heard) = Heard::watched(alloc, 0, joined.loaded.teller.another()) else {
         return Err(Fault::More(HostFault::Memory(desk::Memory)));
     };
     let shared = match shared_desk(alloc, joined) {
@@ -308,7 +318,7 @@ fn hears_finished<'a>(
         Ok(shows) => shows,
         Err(why) => return Err(fault_of_run(why)),
     };
-    match fault_by(shows, heard.last_fault()) {
+    match fault_by(shows, heard.has_given_up(), heard.last_fault()) {
         None => Ok(()),
         Some(fault) => Err(Fault::More(fault)),
     }
@@ -401,8 +411,12 @@ fn host(node: &NodeRequest<'_>, loaded: &Loaded, number: u16) -> FederateHost
 
 // Why the run isn't finished: the coordinator speaks of another history, or the last attempt to connect was answered
 // so. None where it is finished.
-fn fault_by(shows_other_history: bool, last: Option<DialFault>) -> Option<HostFault<'static>>
-    ensures { result ≡ definition.fault_by shows_other_history last }
+fn fault_by(
+    shows_other_history: bool,
+    gave_up: bool,
+    last: Option<DialFault>,
+) -> Option<HostFault<'static>>
+    ensures { result ≡ definition.fault_by shows_other_history gave_up last }
 {
     if shows_other_history {
         return Some(HostFault::OtherHistory);
@@ -413,7 +427,18 @@ fn fault_by(shows_other_history: bool, last: Option<DialFault>) -> Option<HostFa
             Some(HostFault::Refused(fault)),
         Some(DialFault::NotProved) => Some(HostFault::NotProved),
         Some(DialFault::NotConnected | DialFault::NoRandom | DialFault::NoAnswer) | None => {
-            Some(HostFault::NotFinished)
+            Some(HostFault::NotFinished(unfinished_by(gave_up, last)))
         }
+    }
+}
+
+// Why a federate ended that wasn't refused, whose last attempt to connect came to this.
+fn unfinished_by(gave_up: bool, last: Option<DialFault>) -> Unfinished
+    ensures { result ≡ definition.unfinished_by gave_up last }
+{
+    if gave_up {
+        Unfinished::OutOfPatience(last)
+    } else {
+        Unfinished::Stopped(last)
     }
 }

@@ -14,6 +14,9 @@
 //! by the same words, be it to keep a log then or not (`report`). While one of both kinds runs no other begins that has
 //! its report's name (`locked`).
 //!
+//! Whoever watches a node is told what happens there, through a channel for which nobody waits (`Teller` of
+//! `wires_hosts`). What is written to `err` is the fault alone.
+//!
 //! Begin with `request`, then `coordinate` and `join`.
 #![tactic(auto)]
 
@@ -22,6 +25,7 @@ pub mod coordinate;
 pub mod fault;
 mod gathering;
 pub mod join;
+pub mod listen_fault;
 mod loaded;
 mod locked;
 mod logged;
@@ -30,9 +34,13 @@ mod report;
 pub mod request;
 mod saying;
 mod secret;
+pub mod unfinished;
+mod watched;
 pub mod words;
 
-pub use command::node_command;
+pub use command::{NodeAnswer, node_answer, node_command};
 pub use fault::HostFault;
+pub use listen_fault::ListenFault;
 pub use request::{HostRequest, NodeRequest};
+pub use unfinished::Unfinished;
 pub use words::{asks_for_node, read_node_words};

@@ -1,5 +1,4 @@
 ghost use Rattle.std.specs.Prelude.{IfOk};
-ghost use Rattle.std.specs.Net.Socket.{socket_ip};
 ghost use Rattle.fedrun_files.specs.Digests.{AreDigestsOf};
 ghost use Rattle.fedrun_files.specs.Loaded.{input_file, AreSources};
 ghost use Rattle.fedrun_hosts.specs.Begun.{IsDigestOfBoth, IsKeyOf};
@@ -12,6 +11,7 @@ use fedrun_words::Fault;
 use files_reports::FileDigests;
 use std::alloc::Global;
 use wires_greeting::{DIGEST_SIZE, Key, files_digest};
+use wires_hosts::Teller;
 
 /// What a node begins with.
 #[derive(Drop)]
@@ -22,13 +22,16 @@ pub(crate) struct Loaded {
     /// Of both, for the greeting.
     pub files: [u8; DIGEST_SIZE],
     pub key: Key,
+    /// Tells whoever watches what happens.
+    pub teller: Teller,
 }
 
-/// Reads the federation, the recorded inputs and the secret, in this order.
+/// Reads the federation, the recorded inputs and the secret, in this order. The node tells by `teller` what happens.
 pub(crate) fn load<'a, F: Files>(
     alloc: Global,
     node: &NodeRequest<'a>,
     files: &mut F,
+    teller: &Teller,
 ) -> Result<Loaded, Fault<'a, HostFault<'a>>>
     ensures sources { IfOk result (λ loaded.
         AreSources (F.contents files.old node.now.federation.now)
@@ -40,7 +43,7 @@ pub(crate) fn load<'a, F: Files>(
         IsDigestOfBoth (F.contents files.old node.now.federation.now)
         (input_file (F.contents files.old) node.now.inputs.now) loaded.files) }
     ensures key { IfOk result (λ loaded.
-        IsKeyOf (F.contents files.old) (socket_ip node.now.address) node.now.secret loaded.key) }
+        IsKeyOf (F.contents files.old) node.now.address node.now.secret loaded.key) }
 {
     let (sources, bytes) = match read_sources_and_bytes(
         alloc,
@@ -63,5 +66,6 @@ pub(crate) fn load<'a, F: Files>(
         digests,
         files: both,
         key,
+        teller: teller.another(),
     })
 }

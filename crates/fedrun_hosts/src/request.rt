@@ -1,5 +1,5 @@
 use files_keeping::KeptBy;
-use std::net::SocketAddr;
+use wires_hosts::HostAddress;
 
 /// What a node on a machine of its own is given, whichever node it is. Files are given by their names.
 #[derive(Clone, Copy, Debug, PartialEq, Eq)]
@@ -7,8 +7,8 @@ pub struct NodeRequest<'a> {
     pub federation: &'a str,
     /// `-` is a file without any inputs.
     pub inputs: &'a str,
-    /// The coordinator's address: it listens there, and federates connect to it.
-    pub address: SocketAddr,
+    /// Where the coordinator listens, and federates connect to it.
+    pub address: HostAddress,
     /// Where the node's report is written. There is no file of this name, but for a log that has its end.
     pub report: &'a str,
     /// Who keeps its log while it runs, so that it goes on where it is killed. None: there is no log, and its report is

@@ -1,4 +1,5 @@
 use crate::fault::HostFault;
+use crate::listen_fault::ListenFault;
 use fedrun_words::Fault;
 use std::io::Write;
 use std::net::TcpListener;
@@ -8,8 +9,9 @@ pub(crate) fn say_listening<'a, O: Write>(
     listener: &TcpListener,
     out: &mut O,
 ) -> Result<(), Fault<'a, HostFault<'a>>> {
-    let Ok(address) = listener.local_addr() else {
-        return Err(Fault::More(HostFault::CannotListen));
+    let address = match listener.local_addr() {
+        Ok(address) => address,
+        Err(error) => return Err(Fault::More(HostFault::CannotListen(ListenFault::of(&error)))),
     };
     match writeln!(out, "listening {address}") {
         Ok(()) => flush(out),

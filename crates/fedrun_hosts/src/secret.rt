@@ -1,29 +1,27 @@
 ghost use Rattle.std.specs.Prelude.{◌≡◌, [], IfOk, IfErr};
-ghost use Rattle.std.specs.Net.Socket.{socket_ip};
 ghost use Rattle.wires_greeting.specs.Hmac.{key_block};
-ghost use Rattle.wires_greeting.specs.Secret.{IsLoopback};
 ghost use Rattle.fedrun_words.specs.declared.fault.Fault.TheVariants.{More as of_host};
 ghost use Rattle.fedrun_files.specs.Answers.{Answers};
-ghost use Rattle.fedrun_hosts.specs.Begun.{IsKeyOf, IsKeyOfFile, IsKeyFault, IsSecretFault};
+ghost use Rattle.fedrun_hosts.specs.Begun.{IsOfThisMachine, IsKeyOf, IsKeyOfFile, IsKeyFault, IsSecretFault};
 ghost use Rattle.fedrun_hosts.specs.declared.fault.HostFault.TheVariants.{Secret as of_secret};
 
 use crate::fault::HostFault;
 use fedrun_files::{FileFault, Files, fault_of};
 use fedrun_words::Fault;
-use std::net::SocketAddr;
 use wires_greeting::key::MOST_SECRET;
 use wires_greeting::{Key, SecretFault};
+use wires_hosts::HostAddress;
 
 /// The key by which a node proves who it is, with this address: of the secret in the file of this name, or where none is
-/// given, the empty one, on loopback alone.
+/// given, the empty one, at an address of loopback alone.
 pub(crate) fn read_key<'a, F: Files>(
     secret: Option<&'a str>,
-    address: &SocketAddr,
+    address: &HostAddress,
     files: &mut F,
 ) -> Result<Key, Fault<'a, HostFault<'a>>>
-    ensures key { IfOk result (IsKeyOf (F.contents files.old) (socket_ip address.now) secret.entry) }
+    ensures key { IfOk result (IsKeyOf (F.contents files.old) address.now secret.entry) }
     ensures fault { IfErr result (IsKeyFault (F.contents files.old) (Answers (F.answers files.old) (F.answers files.new))
-        (socket_ip address.now) secret.entry) }
+        address.now secret.entry) }
 {
     match secret {
         Some(name) => key_in_file(name, files),
@@ -49,11 +47,14 @@ fn key_in_file<'a, F: Files>(name: &'a str, files: &mut F) -> Result<Key, Fault<
 }
 
 // The empty key, for an address of loopback.
-fn key_without_secret<'a>(address: &SocketAddr) -> Result<Key, Fault<'a, HostFault<'a>>>
-    ensures key { IfOk result (λ key. IsLoopback (socket_ip address.now) × (key ≡ key_block [])) }
-    ensures fault { IfErr result (λ fault. (¬ IsLoopback (socket_ip address.now))
+fn key_without_secret<'a>(address: &HostAddress) -> Result<Key, Fault<'a, HostFault<'a>>>
+    ensures key { IfOk result (λ key. IsOfThisMachine address.now × (key ≡ key_block [])) }
+    ensures fault { IfErr result (λ fault. (¬ IsOfThisMachine address.now)
         × (fault ≡ of_host (of_secret SecretFault.Missing))) }
 {
+    let HostAddress::At(address) = address else {
+        return Err(Fault::More(HostFault::Secret(SecretFault::Missing)));
+    };
     match Key::without_secret(&address.ip()) {
         Ok(key) => Ok(key),
         Err(why) => Err(Fault::More(HostFault::Secret(why))),

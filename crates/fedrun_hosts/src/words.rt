@@ -1,11 +1,12 @@
 use crate::request::{HostRequest, NodeRequest};
 use clap::ArgMatches;
 use clap::error::ErrorKind;
-use fedrun_words::{WordsFault, asks_for_help, command_line, count};
+use fedrun_words::{WordsFault, asks_for_help, command_line, count, host_and_port};
 use files_keeping::KeptBy;
 use signal::wire::BATCHING;
 use std::alloc::Global;
 use std::net::SocketAddr;
+use wires_hosts::HostAddress;
 
 /// The turns of a federate for which no number is given. One that hears nothing makes a turn some 100 times a second,
 /// and so gives up after some three hours.
@@ -40,16 +41,26 @@ pub fn read_node_words<'a>(
             WordsFault::Usage
         }
     })?;
-    requested(&matches).ok_or(WordsFault::Usage)
+    match requested(&matches) {
+        Some(request) => Ok(request),
+        None => Err(WordsFault::Usage),
+    }
 }
 
+// For the prover: no call takes a request by value, since `?` of one isn't covered.
 fn requested<'a>(matches: &ArgMatches<'a>) -> Option<HostRequest<'a>> {
     if let Some(given) = matches.subcommand_matches(COORDINATE) {
-        return Some(HostRequest::Coordinate(node(given, "listen")?));
+        let Some(node) = node(given, "listen") else {
+            return None;
+        };
+        return Some(HostRequest::Coordinate(node));
     }
     let given = matches.subcommand_matches(JOIN)?;
+    let Some(node) = node(given, "connect") else {
+        return None;
+    };
     Some(HostRequest::Join {
-        node: node(given, "connect")?,
+        node,
         name: given.get_str("NAME")?,
         turns: number(given, "turns", JOIN_TURNS)?,
         frames: frames(given)?,
@@ -61,7 +72,7 @@ fn node<'a>(given: &ArgMatches<'a>, address: &str) -> Option<NodeRequest<'a>> {
     Some(NodeRequest {
         federation: given.get_str("FED")?,
         inputs: given.get_str("IN")?,
-        address: given.get_str(address)?.parse::<SocketAddr>().ok()?,
+        address: host_address(given.get_str(address)?)?,
         report: name(given.get_str("report")?)?,
         log: log(given)?,
         secret: given.get_str("secret"),
@@ -70,6 +81,15 @@ fn node<'a>(given: &ArgMatches<'a>, address: &str) -> Option<NodeRequest<'a>> {
             None => None,
         },
     })
+}
+
+// An address and a port, or a host's name and a port.
+fn host_address(text: &str) -> Option<HostAddress> {
+    if let Ok(address) = text.parse::<SocketAddr>() {
+        return Some(HostAddress::At(address));
+    }
+    let (host, port) = host_and_port(text)?;
+    HostAddress::named(host, port)
 }
 
 // A file's name, which has a letter at least.

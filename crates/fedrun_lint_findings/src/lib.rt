@@ -17,7 +17,7 @@ mod keys;
 mod line_words;
 mod lists;
 mod look;
-mod names;
+pub mod names;
 pub mod oddity;
 mod reactions;
 pub mod refusal;
@@ -29,6 +29,7 @@ mod walk;
 mod writing;
 
 pub use finding::Finding;
+pub use names::few_edits;
 pub use oddity::{Oddity, OddityLines, Why};
 pub use refusal::{Refusal, RefusalLines};
 pub use refusing::{refusal_of_federation, refusal_of_inputs};

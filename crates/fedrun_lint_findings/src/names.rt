@@ -81,9 +81,9 @@ fn is_name_or_startup(text: &str) -> bool {
     text == "startup" || is_name(text.as_bytes())
 }
 
-// How many edits lead from a name to another, where they are few for its length: one of so few is likely meant. Letters
-// that changed places are one edit.
-fn few_edits(alloc: Global, from: &str, to: &str) -> Result<Option<usize>, AllocError> {
+/// How many edits lead from a name to another, where they are few for its length: one of so few is likely meant. Letters
+/// that changed places are one edit.
+pub fn few_edits(alloc: Global, from: &str, to: &str) -> Result<Option<usize>, AllocError> {
     let few = from.len().max(3) / 3;
     if from.len().abs_diff(to.len()) > few {
         return Ok(None);

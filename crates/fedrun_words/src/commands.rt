@@ -1,5 +1,11 @@
-//! The commands of the program, with what is given to each. From this one table words are read, and usage, help,
+//! The commands of the program, with what is given to each. From this one list words are read, and usage, help,
 //! completions of shells and the manual page are printed.
+ghost use Rattle.std.specs.Prelude.{◌≡◌, false};
+ghost use Rattle.std.specs.Iterator.Adapters.{chain_first, chain_second, chain_first_done, chain_second_done};
+ghost use Rattle.std.specs.Slice.Iter.{iter_rest};
+
+use std::iter::Chain;
+use std::slice;
 
 /// Which command it is.
 #[derive(Clone, Copy, Debug, PartialEq, Eq)]
@@ -64,13 +70,48 @@ pub struct CommandWords {
     pub more: &'static [&'static str],
 }
 
-/// The commands, in the order in which they are told. Whoever wants them calls this: where the constant is named, its
-/// whole text is proved again.
-pub fn all_commands() -> &'static [CommandWords] {
-    COMMANDS
+/// The commands that there are, in the order in which they are told. They stand in two tables, since one constant is
+/// proved as a whole, and all of them are too much for one proof.
+#[derive(Clone, Copy, Debug, PartialEq, Eq)]
+pub struct CommandTables {
+    /// Those that run a federation on this machine, or show what it is and does.
+    pub of_federations: &'static [CommandWords],
+    /// Those of files, of nodes on machines of their own, and of the program itself.
+    pub others: &'static [CommandWords],
 }
 
-const COMMANDS: &[CommandWords] = &[
+impl CommandTables {
+    /// Each command, from the first table on.
+    pub fn iter(
+        &self,
+    ) -> Chain<slice::Iter<'static, CommandWords>, slice::Iter<'static, CommandWords>>
+        ensures first { iter_rest (chain_first result) ≡ self.now.of_federations.now }
+        ensures others { iter_rest (chain_second result) ≡ self.now.others.now }
+        ensures none { (chain_first_done result ≡ false) × (chain_second_done result ≡ false) }
+    {
+        self.of_federations.iter().chain(self.others)
+    }
+}
+
+/// The commands of the program.
+pub fn all_commands() -> CommandTables {
+    CommandTables {
+        of_federations: commands_of_federations(),
+        others: other_commands(),
+    }
+}
+
+// The first table. Where the constant is named, its whole text is proved: so it is named here alone.
+fn commands_of_federations() -> &'static [CommandWords] {
+    COMMANDS_OF_FEDERATIONS
+}
+
+// The second table.
+fn other_commands() -> &'static [CommandWords] {
+    OTHER_COMMANDS
+}
+
+const COMMANDS_OF_FEDERATIONS: &[CommandWords] = &[
     CommandWords {
         kind: CommandKind::Run,
         name: "run",
@@ -142,10 +183,15 @@ const COMMANDS: &[CommandWords] = &[
         name: "draw",
         arguments: &[FED],
         may_follow: &[IN, SCHEDULE],
-        options: &[UNTIL_STUCK],
+        options: &[UNTIL_STUCK, FROM, TO, REACTIONS],
         about: "a picture of the federation, or of a schedule, as SVG",
-        more: &["Closing rounds are for a schedule alone."],
+        more: &[
+            "Closing rounds and steps are for a schedule alone, reactions for a federation alone.",
+        ],
     },
+];
+
+const OTHER_COMMANDS: &[CommandWords] = &[
     CommandWords {
         kind: CommandKind::Lint,
         name: "lint",
@@ -173,7 +219,7 @@ const COMMANDS: &[CommandWords] = &[
         name: "coordinate",
         arguments: &[FED, IN],
         may_follow: &[],
-        options: &[LISTEN, REPORT, SECRET, PATIENCE, SYNC],
+        options: &[LISTEN, REPORT, SECRET, PATIENCE, SYNC, LOG],
         about: "the coordinator alone, for federates on other machines; it writes a report",
         more: &[
             "At an address that isn't on loopback a secret is needed. The reports of all nodes are for audit.",
@@ -193,6 +239,7 @@ const COMMANDS: &[CommandWords] = &[
             SYNC,
             TURNS_OF_EACH,
             FRAMES,
+            LOG,
         ],
         about: "one federate alone; it writes a report",
         more: &[
@@ -391,6 +438,33 @@ const UNTIL_STUCK: OptionWords = OptionWords {
     about: "after the schedule, closing rounds until nothing is left to do, at most N",
 };
 
+const FROM: OptionWords = OptionWords {
+    name: "from",
+    letter: None,
+    value: Some("STEP"),
+    is_file: false,
+    is_needed: false,
+    about: "of all steps, which are made, those from the STEP-th on are drawn",
+};
+
+const TO: OptionWords = OptionWords {
+    name: "to",
+    letter: None,
+    value: Some("STEP"),
+    is_file: false,
+    is_needed: false,
+    about: "and those to the STEP-th",
+};
+
+const REACTIONS: OptionWords = OptionWords {
+    name: "reactions",
+    letter: None,
+    value: None,
+    is_file: false,
+    is_needed: false,
+    about: "in each box its reactions, with triggers, outputs, actions and delays",
+};
+
 const LISTEN: OptionWords = OptionWords {
     name: "listen",
     letter: None,
@@ -443,4 +517,13 @@ const SYNC: OptionWords = OptionWords {
     is_file: false,
     is_needed: false,
     about: "what has its log before anything leaves it, the disk or the system; the disk where it isn't given",
+};
+
+const LOG: OptionWords = OptionWords {
+    name: "log",
+    letter: None,
+    value: None,
+    is_file: false,
+    is_needed: false,
+    about: "lines on standard error say who connects, who is lost, who is refused and why, and when it is finished",
 };

@@ -17,6 +17,7 @@
 pub mod commands;
 pub mod fault;
 mod given;
+mod host;
 mod line;
 pub mod more;
 mod numbers;
@@ -27,9 +28,12 @@ mod request;
 pub mod text;
 mod values;
 
-pub use commands::{ArgumentWords, CommandKind, CommandWords, OptionWords, all_commands};
+pub use commands::{
+    ArgumentWords, CommandKind, CommandTables, CommandWords, OptionWords, all_commands,
+};
 pub use fault::Fault;
 pub use given::given_words;
+pub use host::host_and_port;
 pub use more::{MoreFault, NoSuchCommand};
 pub use numbers::count;
 pub use reading::{WordsFault, asks_for_help, asks_for_version, command_line, read_words};

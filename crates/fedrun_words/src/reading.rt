@@ -83,7 +83,7 @@ fn about<'a>(topic: AboutTopic) -> Request<'a> {
 
 // The request of words that were parsed.
 fn requested<'a>(alloc: Global, matches: &ArgMatches<'a>) -> Result<Request<'a>, WordsFault> {
-    for command in all_commands() {
+    for command in all_commands().iter() {
         if let Some(given) = matches.subcommand_matches(command.name) {
             return request(alloc, command.kind, given);
         }
@@ -124,7 +124,7 @@ pub fn command_line<'a>(alloc: Global) -> Result<Command<'a>, AllocError> {
         .no_binary_name(true)
         .disable_help_subcommand(true)
         .subcommand_required(true);
-    for words in all_commands() {
+    for words in all_commands().iter() {
         command = command.subcommand(described(alloc, words)?)?;
     }
     Ok(command)
@@ -235,22 +235,45 @@ fn trace<'a>(given: &ArgMatches<'a>) -> Option<Request<'a>> {
 // The federation alone, or a schedule of it.
 fn draw<'a>(given: &ArgMatches<'a>) -> Option<Request<'a>> {
     let federation = given.get_str("FED")?;
-    match (
-        given.get_str("IN"),
-        given.get_str("SCHEDULE"),
-        until_stuck(given)?,
-    ) {
-        (None, None, None) => Some(Request::DrawFederation(DrawFederationRequest { federation })),
-        (Some(inputs), Some(schedule), until_stuck) => Some(Request::DrawSchedule(
-            DrawScheduleRequest {
-                federation,
-                inputs,
-                schedule,
-                until_stuck,
-            },
-        )),
+    match (given.get_str("IN"), given.get_str("SCHEDULE")) {
+        (None, None) => draw_federation(given, federation),
+        (Some(inputs), Some(schedule)) => draw_schedule(given, federation, inputs, schedule),
         _ => None,
     }
+}
+
+// The federation alone: what is for a schedule isn't given.
+fn draw_federation<'a>(given: &ArgMatches<'a>, federation: &'a str) -> Option<Request<'a>> {
+    if given.get_str("until-stuck").is_some()
+        || given.get_str("from").is_some()
+        || given.get_str("to").is_some()
+    {
+        return None;
+    }
+    Some(Request::DrawFederation(DrawFederationRequest {
+        federation,
+        reactions: given.get_flag("reactions"),
+    }))
+}
+
+// A schedule of it: what is for the federation alone isn't given.
+fn draw_schedule<'a>(
+    given: &ArgMatches<'a>,
+    federation: &'a str,
+    inputs: &'a str,
+    schedule: &'a str,
+) -> Option<Request<'a>> {
+    if given.get_flag("reactions") {
+        return None;
+    }
+    Some(Request::DrawSchedule(DrawScheduleRequest {
+        federation,
+        inputs,
+        schedule,
+        until_stuck: number(given, "until-stuck")?,
+        from: number(given, "from")?,
+        to: number(given, "to")?,
+    }))
 }
 
 // Of a federation file.
@@ -307,8 +330,13 @@ fn completions<'a>(given: &ArgMatches<'a>) -> Option<Request<'a>> {
 
 // How many closing rounds there may be, where some are asked for. None where the words say no number.
 fn until_stuck(given: &ArgMatches<'_>) -> Option<Option<u32>> {
-    match given.get_str("until-stuck") {
-        Some(rounds) => Some(Some(count(rounds)?)),
+    number(given, "until-stuck")
+}
+
+// The number that is given to an option, where it is. None where the words say no number.
+fn number(given: &ArgMatches<'_>, option: &str) -> Option<Option<u32>> {
+    match given.get_str(option) {
+        Some(text) => Some(Some(count(text)?)),
         None => Some(None),
     }
 }

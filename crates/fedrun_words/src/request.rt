@@ -1,6 +1,6 @@
 //! What the words ask for: a variant for each command, with a struct of what is given to it. Files are given by their
 //! names; an `inputs` of `-` is a file without any.
-use crate::commands::CommandWords;
+use crate::commands::{CommandTables, CommandWords};
 use files_text::RowFormat;
 
 /// What the words ask for.
@@ -106,6 +106,8 @@ pub struct TraceRequest<'a> {
 #[derive(Clone, Copy, Debug, PartialEq, Eq)]
 pub struct DrawFederationRequest<'a> {
     pub federation: &'a str,
+    /// Whether reactions are drawn too.
+    pub reactions: bool,
 }
 
 /// What is given to `draw`, where it is given a schedule.
@@ -116,6 +118,9 @@ pub struct DrawScheduleRequest<'a> {
     pub schedule: &'a str,
     /// How many closing rounds there may be after the schedule, where some are asked for.
     pub until_stuck: Option<u32>,
+    /// The first step and the last that are drawn, where they are given, counted from 1.
+    pub from: Option<u32>,
+    pub to: Option<u32>,
 }
 
 /// What is given to `audit`.
@@ -141,7 +146,7 @@ pub struct LintRequest<'a> {
 #[derive(Clone, Copy, Debug, PartialEq, Eq)]
 pub struct AboutRequest {
     /// The commands that there are.
-    pub commands: &'static [CommandWords],
+    pub commands: CommandTables,
     pub topic: AboutTopic,
 }
 

@@ -14,7 +14,7 @@ use fedrun_progress::{NoProgress, ProgressLine, asks_for_progress};
 use fedrun_whole::{command, given};
 use fedrun_words::{Fault, NoSuchCommand, asks_for_version, print_text, refuse};
 use std::alloc::Global;
-use std::io::Write;
+use std::io::{IsTerminal, Write};
 use std::process::ExitCode;
 use std::thread;
 
@@ -25,7 +25,8 @@ fn main(rt: HostRuntime) -> ExitCode {
     let mut err = rt.stderr();
     let status = match given(&rt, rt.stdout()) {
         Ok((words, mut out)) => {
-            let (words, hints) = asks_for_hints(words.as_slice());
+            let (words, said) = asks_for_hints(words.as_slice());
+            let hints = said.unwrap_or(err.is_terminal());
             let mut files = MachineFiles::new(&rt, rt.stdin());
             let status = if asks_for_version(words) {
                 say_version(&mut out, &mut err)

@@ -61,6 +61,7 @@ sign_shape signs.Startup = codes "M-4 0A4 4 0 1 1 4 0A4 4 0 1 1 -4 0Z"
 sign_shape signs.Timer = codes "M-6 0A6 6 0 1 1 6 0A6 6 0 1 1 -6 0ZM0 -4V0L3 2"
 sign_shape signs.Action = codes "M0 -6L6 5H-6Z"
 sign_shape signs.Physical = codes "M0 -6L6 5H-6ZM-3 1H3"
+sign_shape signs.Reaction = codes "M-8 -5H1L5 0L1 5H-8L-4 0Z"
 sign_shape signs.Row = codes "M-4 -4H4V4H-4Z"
 sign_shape signs.Cut = codes "M-8 0L-3 -5L3 5L8 0"
 

@@ -1,7 +1,8 @@
-//! Where the boxes of a federation and the lines between them stand, column by column from the left.
-use crate::columns::{Column, all_columns, column_numbers, is_forward};
+//! Where the boxes of a federation and the lines between them stand, band by band from the top, and in each column by
+//! column from the left.
+use crate::columns::{Column, Places, all_columns};
 use crate::figures::{Figure, Figures, Wire};
-use crate::returns::{Return, all_returns, lane_count};
+use crate::returns::{Along, Return, all_alongs, all_returns, lane_counts, lane_of, margin_count};
 use crate::shapes::{Area, Ending, Ink, Line, Point, Stroke, number_at, put_number, zeros};
 use std::alloc::{AllocError, Global};
 
@@ -19,11 +20,12 @@ const ABOVE: usize = 16;
 pub(crate) struct Grid<'a> {
     figures: &'a [Figure],
     wires: &'a [Wire],
-    /// The column of each federate.
-    numbers: Vec<usize>,
+    places: Places,
     columns: Vec<Column>,
-    /// Where the boxes begin.
-    first: usize,
+    /// How many lines go along above the boxes of each band.
+    lanes: Vec<usize>,
+    /// Where the boxes of each band begin, of those that are begun.
+    firsts: Vec<usize>,
     /// The top of each box.
     tops: Vec<usize>,
     /// At which height each line came last.
@@ -51,26 +53,29 @@ impl<'a> Grid<'a> {
     pub(crate) fn placed(alloc: Global, all: &'a Figures) -> Result<Grid<'a>, AllocError> {
         let figures = all.figures.as_slice();
         let wires = all.wires.as_slice();
-        let numbers = column_numbers(alloc, figures, wires)?;
-        let columns = all_columns(alloc, figures, wires, numbers.as_slice())?;
-        let back = all_returns(alloc, wires, numbers.as_slice(), columns.as_slice())?;
-        let first = top_of_boxes(lane_count(back.as_slice()));
+        let places = Places::new(alloc, figures, wires)?;
+        let margin = margin_count(wires, &places);
+        let columns = all_columns(alloc, figures, wires, &places, margin)?;
+        let back = all_returns(alloc, wires, &places, columns.as_slice())?;
+        let alongs = all_alongs(alloc, back.as_slice())?;
+        let lanes = lane_counts(alloc, alongs.as_slice(), places.bands.len())?;
         let tops = zeros(alloc, figures.len())?;
         let heights = zeros(alloc, wires.len())?;
-        let lines = blank_lines(alloc, wires)?;
+        let lines = blank_lines(alloc, wires, &places)?;
         let mut grid = Grid {
             figures,
             wires,
-            numbers,
+            places,
             columns,
-            first,
+            lanes,
+            firsts: Vec::new(alloc),
             tops,
             heights,
             lines,
-            bottom: first,
+            bottom: 0,
         };
         grid.place_columns(alloc)?;
-        grid.draw_returns(back.as_slice())?;
+        grid.draw_returns(back.as_slice(), alongs.as_slice())?;
         Ok(grid)
     }
 
@@ -110,7 +115,7 @@ impl<'a> Grid<'a> {
 
     // The column of a federate.
     fn column_of(&self, figure: usize) -> Column {
-        self.column(number_at(self.numbers.as_slice(), figure))
+        self.column(self.places.column_of(figure))
     }
 
     // The column of this number.
@@ -118,6 +123,7 @@ impl<'a> Grid<'a> {
         match self.columns.get(number) {
             Some(column) => *column,
             None => Column {
+                band: 0,
                 left: 0,
                 right: 0,
                 delays: 0,
@@ -127,10 +133,22 @@ impl<'a> Grid<'a> {
         }
     }
 
-    // Places all columns, from the left.
+    // Places all columns, band by band from the left.
     fn place_columns(&mut self, alloc: Global) -> Result<(), AllocError> {
         for number in 0..self.columns.len() {
+            let band = self.places.band(number);
+            self.begin_band(band)?;
             self.place_column(alloc, number)?;
+        }
+        Ok(())
+    }
+
+    // Where a band isn't begun, it begins below all that is placed: with its lines, and then its boxes.
+    fn begin_band(&mut self, band: usize) -> Result<(), AllocError> {
+        if self.firsts.len() <= band {
+            let lanes = number_at(self.lanes.as_slice(), band);
+            let first = self.bottom.saturating_add(height_above_boxes(lanes));
+            self.firsts.push(first)?;
         }
         Ok(())
     }
@@ -138,7 +156,7 @@ impl<'a> Grid<'a> {
     // Places what stands in a column and what goes past there, each as high as it is wanted where there is room.
     fn place_column(&mut self, alloc: Global, number: usize) -> Result<(), AllocError> {
         let waiting = self.waiting(alloc, number)?;
-        let mut from = self.first;
+        let mut from = number_at(self.firsts.as_slice(), self.places.band(number));
         for each in waiting.as_slice() {
             let top = each.wanted.max(from);
             from = self.place(number, *each, top)?;
@@ -159,7 +177,7 @@ impl<'a> Grid<'a> {
     // Adds the boxes of a column.
     fn add_boxes(&self, waiting: &mut Vec<Waiting>, number: usize) -> Result<(), AllocError> {
         for place in 0..self.figures.len() {
-            if number_at(self.numbers.as_slice(), place) == number {
+            if self.places.column_of(place) == number {
                 waiting.push(Waiting {
                     wanted: self.wanted_top(place),
                     order: self.rank(place),
@@ -199,8 +217,9 @@ impl<'a> Grid<'a> {
     fn goes_past(&self, wire: usize, number: usize) -> bool {
         match self.wires.get(wire) {
             Some(wire) => {
-                number_at(self.numbers.as_slice(), wire.source) < number
-                    && number < number_at(self.numbers.as_slice(), wire.target)
+                self.places.is_forward(wire)
+                    && self.places.column_of(wire.source) < number
+                    && number < self.places.column_of(wire.target)
             }
             None => false,
         }
@@ -212,7 +231,7 @@ impl<'a> Grid<'a> {
         let mut count = 0usize;
         for place in 0..self.wires.len() {
             if let Some(wire) = self.wires.get(place) {
-                if wire.target == figure && is_forward(self.numbers.as_slice(), wire) {
+                if wire.target == figure && self.places.is_forward(wire) {
                     let height = number_at(self.heights.as_slice(), place);
                     let top = height.saturating_sub(Figure::port_drop(wire.input));
                     sum = sum.saturating_add(top);
@@ -276,7 +295,7 @@ impl<'a> Grid<'a> {
     // The input at which a connection to the right ends, where that is at this federate.
     fn input_at(&self, wire: usize, figure: usize) -> Option<usize> {
         let wire = self.wires.get(wire)?;
-        if wire.target == figure && is_forward(self.numbers.as_slice(), wire) {
+        if wire.target == figure && self.places.is_forward(wire) {
             Some(wire.input)
         } else {
             None
@@ -286,7 +305,7 @@ impl<'a> Grid<'a> {
     // The output at which a connection to the right begins, where that is at this federate.
     fn output_at(&self, wire: usize, figure: usize) -> Option<usize> {
         let wire = self.wires.get(wire)?;
-        if wire.source == figure && is_forward(self.numbers.as_slice(), wire) {
+        if wire.source == figure && self.places.is_forward(wire) {
             Some(wire.output)
         } else {
             None
@@ -302,24 +321,35 @@ impl<'a> Grid<'a> {
         Ok(())
     }
 
-    // The lines of connections that go back over the top.
-    fn draw_returns(&mut self, back: &[Return]) -> Result<(), AllocError> {
+    // The lines of connections that aren't drawn to the right within a band.
+    fn draw_returns(&mut self, back: &[Return], alongs: &[Along]) -> Result<(), AllocError> {
         for each in back {
-            self.draw_return(*each)?;
+            self.draw_return(*each, alongs)?;
         }
         Ok(())
     }
 
-    // The line of a connection that goes back: out, up, along, down and in.
-    fn draw_return(&mut self, back: Return) -> Result<(), AllocError> {
+    // The line of such a connection: out, up, along, down and in. Between two bands it goes left of all columns.
+    fn draw_return(&mut self, back: Return, alongs: &[Along]) -> Result<(), AllocError> {
         let (from, to) = self.ends(back.wire);
-        let along = lane_height(self.first, back.lane);
+        let first = self.along_height(alongs, back.wire, back.first_band);
+        let last = self.along_height(alongs, back.wire, back.last_band);
         self.lead(back.wire, from.x, from.y)?;
         self.lead(back.wire, back.up, from.y)?;
-        self.lead(back.wire, back.up, along)?;
-        self.lead(back.wire, back.down, along)?;
+        self.lead(back.wire, back.up, first)?;
+        if back.changes_band() {
+            self.lead(back.wire, back.margin, first)?;
+            self.lead(back.wire, back.margin, last)?;
+        }
+        self.lead(back.wire, back.down, last)?;
         self.lead(back.wire, back.down, to.y)?;
         self.lead(back.wire, to.x, to.y)
+    }
+
+    // At which height a line goes along above the boxes of a band.
+    fn along_height(&self, alongs: &[Along], wire: usize, band: usize) -> usize {
+        let first = number_at(self.firsts.as_slice(), band);
+        lane_height(first, lane_of(alongs, wire, band))
     }
 
     /// The ports of a connection.
@@ -352,8 +382,8 @@ impl<'a> Grid<'a> {
     }
 }
 
-// Where boxes begin below this many lines.
-fn top_of_boxes(lanes: usize) -> usize {
+// The height of this many lines that go along above boxes, with the space around them.
+fn height_above_boxes(lanes: usize) -> usize {
     lanes.saturating_mul(LANE).saturating_add(ABOVE + APART / 2)
 }
 
@@ -365,15 +395,16 @@ fn lane_height(first: usize, lane: usize) -> usize {
 }
 
 // A line for each connection, without points.
-fn blank_lines(alloc: Global, wires: &[Wire]) -> Result<Vec<Line>, AllocError> {
+fn blank_lines(alloc: Global, wires: &[Wire], places: &Places) -> Result<Vec<Line>, AllocError> {
     let mut lines = Vec::new(alloc);
     for wire in wires {
-        lines.push(blank_line(alloc, wire.delay.is_some()))?;
+        let bends = places.does_swing(wire);
+        lines.push(blank_line(alloc, wire.delay.is_some(), bends))?;
     }
     Ok(lines)
 }
 
-fn blank_line(alloc: Global, is_dashed: bool) -> Line {
+fn blank_line(alloc: Global, is_dashed: bool, bends: bool) -> Line {
     Line {
         points: Vec::new(alloc),
         stroke: Stroke {
@@ -381,6 +412,6 @@ fn blank_line(alloc: Global, is_dashed: bool) -> Line {
             is_dashed,
             ending: Ending::Plain,
         },
-        bends: true,
+        bends,
     }
 }

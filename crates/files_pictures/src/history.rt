@@ -7,6 +7,8 @@ use std::alloc::{AllocError, Global};
 /// A step.
 #[derive(Drop)]
 pub struct Moment {
+    /// The line of the schedule that it was made for.
+    pub line: usize,
     /// What is written beside it; it is red where the step was refused.
     pub text: String,
     pub ink: Ink,
@@ -24,10 +26,12 @@ pub struct Sending {
     pub is_up: bool,
     /// Which frame of its direction it is, counted from 1.
     pub number: usize,
-    /// The step that sent it.
-    pub step: usize,
+    /// The step that sent it; None where that is before those that are drawn.
+    pub step: Option<usize>,
     pub ink: Ink,
     pub text: String,
+    /// Whether it doesn't come in what is drawn, but after it.
+    pub is_late: bool,
 }
 
 /// A frame that came.
@@ -49,6 +53,8 @@ pub struct RowMark {
     pub federate: usize,
     pub step: usize,
     pub text: String,
+    /// The tag that begins with it: its own, where no row before has that or a later one.
+    pub begins: Option<String>,
 }
 
 /// All that is drawn of a schedule.
@@ -56,6 +62,8 @@ pub struct RowMark {
 pub struct History {
     /// Of the federates.
     pub names: Vec<String>,
+    /// How many steps stand before those that are drawn.
+    pub gone: usize,
     pub steps: Vec<Moment>,
     pub frames: Vec<Sending>,
     pub arrivals: Vec<Arrival>,
@@ -73,6 +81,7 @@ impl History {
     {
         History {
             names: Vec::new(alloc),
+            gone: 0,
             steps: Vec::new(alloc),
             frames: Vec::new(alloc),
             arrivals: Vec::new(alloc),
@@ -92,6 +101,19 @@ impl History {
         ensures steps { self.new.steps ≡ self.old.steps }
     {
         self.frames.push(frame)?;
+        Ok(())
+    }
+
+    /// The frame at a place comes after what is drawn.
+    pub fn set_late(&mut self, place: usize) -> Result<(), AllocError>
+        ensures { self.new.steps ≡ self.old.steps }
+    {
+        if let Some(frame) = self.frames.get_mut(place) {
+            if !frame.is_late {
+                frame.is_late = true;
+                frame.text.push_str(" ...")?;
+            }
+        }
         Ok(())
     }
 

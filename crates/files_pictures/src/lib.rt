@@ -7,11 +7,12 @@
 //! see where things stand:
 //!
 //!     Figures --> federation (columns, returns, grid) --+--> Picture --> svg (lines, labels, looks) --> a writer
-//!     History --> lifelines (times) --------------------+
+//!     History --> lifelines (times, runs, arrows) ------+
 //!
 //! Begin with `figures` and `history`, which say what is drawn, then `shapes`.
 #![tactic(auto)]
 
+mod arrows;
 mod columns;
 mod federation;
 pub mod figures;
@@ -23,6 +24,7 @@ mod lifelines;
 mod lines;
 mod looks;
 mod returns;
+mod runs;
 pub mod shapes;
 mod svg;
 mod times;

@@ -1,9 +1,10 @@
 //! The picture of a schedule: lifelines, and arrows between them.
-use crate::history::{Arrival, History, Moment, RowMark, Sending};
+use crate::arrows::{add_arrivals, add_lost};
+use crate::history::{History, Moment, RowMark};
 use crate::shapes::{
-    Anchor, Area, Ending, INKS, Ink, Lettering, Line, Picture, Point, Sign, Stroke, text_width,
+    Anchor, Area, Ending, INKS, Ink, Picture, Point, Sign, Stroke, letters, text_width,
 };
-use crate::times::{LOST, Times};
+use crate::times::{LINE_HEADING, STEP_HEADING, TAG_HEADING, Times};
 use std::alloc::{AllocError, Global};
 
 /// How far below the middle of a line of text its base line is.
@@ -11,12 +12,6 @@ const BASE: usize = 4;
 
 /// The space between a line and a text beside it.
 const BESIDE: usize = 12;
-
-/// How far below the height at which a step receives it sends.
-const AFTER: usize = 6;
-
-/// How far a frame goes that never comes.
-const SHORT: usize = 30;
 
 /// Where the words stand that say what colours and lines mean.
 const LEGEND: usize = 22;
@@ -26,6 +21,13 @@ const NAMES: usize = 48;
 
 /// The height of a box with a name.
 const BOX: usize = 26;
+
+/// A lifeline, or a line of the time axis.
+const FAINT: Stroke = Stroke {
+    ink: Ink::Faint,
+    is_dashed: false,
+    ending: Ending::Plain,
+};
 
 /// The picture of a schedule.
 pub fn schedule_picture(alloc: Global, history: &History) -> Result<Picture, AllocError> {
@@ -45,20 +47,13 @@ fn add_all(
     let legend = add_legend(alloc, picture)?;
     picture.width = times.right().max(legend);
     picture.height = times.bottom.saturating_add(BOX + BESIDE);
+    add_tags(alloc, picture, times, history.rows.as_slice())?;
     add_lifelines(alloc, picture, times, history)?;
-    add_steps(picture, times, history)?;
+    add_headings(alloc, picture, times)?;
+    add_steps(alloc, picture, times, history)?;
     add_lost(alloc, picture, times, history)?;
     add_arrivals(alloc, picture, times, history)?;
     add_rows(picture, times, history)
-}
-
-// A text in an ink.
-fn lettering(anchor: Anchor, ink: Ink, is_bold: bool) -> Lettering {
-    Lettering {
-        anchor,
-        ink,
-        is_bold,
-    }
 }
 
 // Adds what colours and lines mean, and says how far right that goes.
@@ -86,7 +81,7 @@ fn add_legend_word(
     picture.add_label(
         Point { x, y: LEGEND },
         text,
-        lettering(Anchor::Begins, ink, true),
+        letters(Anchor::Begins, ink, true),
     )
 }
 
@@ -103,6 +98,46 @@ fn legend_word(ink: Ink) -> &'static str {
         Ink::Plain => "dashed: delivered again",
         Ink::Faint => "cross: never delivered",
     }
+}
+
+// Adds the time axis: a level line where a tag begins, with that tag.
+fn add_tags(
+    alloc: Global,
+    picture: &mut Picture,
+    times: &Times,
+    rows: &[RowMark],
+) -> Result<(), AllocError> {
+    for row in rows {
+        if let Some(tag) = &row.begins {
+            add_tag(alloc, picture, times, times.height(row.step), tag)?;
+        }
+    }
+    Ok(())
+}
+
+// Adds the line above the step with which a tag begins.
+fn add_tag(
+    alloc: Global,
+    picture: &mut Picture,
+    times: &Times,
+    height: usize,
+    tag: &String,
+) -> Result<(), AllocError> {
+    let from = Point {
+        x: times.axis,
+        y: height.saturating_sub(BESIDE),
+    };
+    let to = Point {
+        x: times.right(),
+        y: from.y,
+    };
+    picture.add_straight(alloc, from, to, FAINT)?;
+    let at = Point {
+        x: times.axis,
+        y: height.saturating_add(BASE),
+    };
+    let look = letters(Anchor::Begins, Ink::Faint, true);
+    picture.add_label(at, tag.clone()?, look)
 }
 
 // Adds the lifelines, each with its name.
@@ -148,7 +183,7 @@ fn add_name(picture: &mut Picture, x: usize, top: usize, name: String) -> Result
         x,
         y: top.saturating_add(BOX / 2 + BASE),
     };
-    picture.add_label(at, name, lettering(Anchor::Centred, Ink::Plain, true))
+    picture.add_label(at, name, letters(Anchor::Centred, Ink::Plain, true))
 }
 
 // Adds a federate's lifeline, cut where it forgets.
@@ -190,199 +225,138 @@ fn add_life(
     from: usize,
     to: usize,
 ) -> Result<(), AllocError> {
-    let stroke = Stroke {
-        ink: Ink::Faint,
-        is_dashed: false,
-        ending: Ending::Plain,
+    picture.add_straight(alloc, Point { x, y: from }, Point { x, y: to }, FAINT)
+}
+
+// Adds what stands above the numbers of steps and lines, and above tags.
+fn add_headings(alloc: Global, picture: &mut Picture, times: &Times) -> Result<(), AllocError> {
+    add_heading(
+        alloc,
+        picture,
+        times.numbers_end,
+        Anchor::Ends,
+        STEP_HEADING,
+    )?;
+    add_heading(alloc, picture, times.lines_end, Anchor::Ends, LINE_HEADING)?;
+    add_heading(alloc, picture, times.axis, Anchor::Begins, TAG_HEADING)
+}
+
+// Adds a heading, as high as the names of lifelines.
+fn add_heading(
+    alloc: Global,
+    picture: &mut Picture,
+    x: usize,
+    anchor: Anchor,
+    heading: &str,
+) -> Result<(), AllocError> {
+    let at = Point {
+        x,
+        y: NAMES + BOX / 2 + BASE,
     };
-    picture.add_straight(alloc, Point { x, y: from }, Point { x, y: to }, stroke)
+    let text = String::from_str(alloc, heading)?;
+    picture.add_label(at, text, letters(anchor, Ink::Faint, true))
 }
 
 // Adds what is written beside the steps.
-fn add_steps(picture: &mut Picture, times: &Times, history: &History) -> Result<(), AllocError> {
+fn add_steps(
+    alloc: Global,
+    picture: &mut Picture,
+    times: &Times,
+    history: &History,
+) -> Result<(), AllocError> {
     for step in 0..history.steps.len() {
         if let Some(moment) = history.steps.get(step) {
-            if moment.is_shown {
-                add_step(picture, times.height(step), moment)?;
+            if moment.is_shown && !times.runs.is_folded(step) {
+                add_step(alloc, picture, times, history, step, moment)?;
             }
         }
     }
     Ok(())
 }
 
-// Adds what is written beside a step.
-fn add_step(picture: &mut Picture, height: usize, moment: &Moment) -> Result<(), AllocError> {
-    let at = Point {
-        x: BESIDE,
-        y: height.saturating_add(BASE),
-    };
-    let look = lettering(Anchor::Begins, moment.ink, false);
-    picture.add_label(at, moment.text.clone()?, look)
-}
-
-// Where a frame leaves, and where it is to go.
-fn ends(times: &Times, frame: &Sending) -> (usize, usize) {
-    let federate = times.federate(frame.federate);
-    let coordinator = times.coordinator();
-    if frame.is_up {
-        (federate, coordinator)
-    } else {
-        (coordinator, federate)
-    }
-}
-
-// So far from a place, towards another.
-fn towards(from: usize, to: usize, far: usize) -> usize {
-    if from < to {
-        from.saturating_add(far)
-    } else {
-        from.saturating_sub(far)
-    }
-}
-
-// On which side of a point a text stands that is further on towards a place.
-fn anchor_towards(from: usize, to: usize) -> Anchor {
-    if from < to {
-        Anchor::Begins
-    } else {
-        Anchor::Ends
-    }
-}
-
-// Adds the frames that never came.
-fn add_lost(
+// Adds what is written beside a step, or beside the first of several that are drawn as one: its number, that of its line,
+// and its words.
+fn add_step(
     alloc: Global,
     picture: &mut Picture,
     times: &Times,
     history: &History,
+    step: usize,
+    moment: &Moment,
 ) -> Result<(), AllocError> {
-    for place in 0..history.frames.len() {
-        if let Some(frame) = history.frames.get(place) {
-            if times.coming_count(place) == 0 {
-                add_lost_frame(alloc, picture, times, frame, times.loss_place(place))?;
-            }
-        }
-    }
-    Ok(())
-}
-
-// Adds a frame that never came: a short line that ends in a cross, below those of the same step before it.
-fn add_lost_frame(
-    alloc: Global,
-    picture: &mut Picture,
-    times: &Times,
-    frame: &Sending,
-    place: usize,
-) -> Result<(), AllocError> {
-    let (x, receiver) = ends(times, frame);
-    let y = times.height(frame.step).saturating_add(AFTER);
-    let end = Point {
-        x: towards(x, receiver, SHORT),
-        y: y.saturating_add(BESIDE)
-            .saturating_add(place.saturating_mul(LOST)),
-    };
-    let stroke = Stroke {
-        ink: frame.ink,
-        is_dashed: false,
-        ending: Ending::Cross,
-    };
-    picture.add_straight(alloc, Point { x, y }, end, stroke)?;
-    let at = Point {
-        x: towards(end.x, receiver, BESIDE),
-        y: end.y.saturating_add(BASE),
-    };
-    let look = lettering(anchor_towards(x, receiver), frame.ink, false);
-    picture.add_label(at, frame.text.clone()?, look)
-}
-
-// Adds the frames that came, each as often as it did.
-fn add_arrivals(
-    alloc: Global,
-    picture: &mut Picture,
-    times: &Times,
-    history: &History,
-) -> Result<(), AllocError> {
-    for arrival in history.arrivals.as_slice() {
-        if let Some(frame) = history.frames.get(arrival.frame) {
-            add_arrow(alloc, picture, times, *arrival, frame)?;
-            add_arrow_text(alloc, picture, times, *arrival, frame)?;
-        }
-    }
-    Ok(())
-}
-
-// The ink of a frame that came.
-fn arrival_ink(arrival: Arrival, frame: &Sending) -> Ink {
-    match arrival.refused {
-        Some(_) => Ink::Refused,
-        None => frame.ink,
-    }
-}
-
-// Adds the arrow of a frame that came: level beside both lifelines, where texts stand, and aslant between.
-fn add_arrow(
-    alloc: Global,
-    picture: &mut Picture,
-    times: &Times,
-    arrival: Arrival,
-    frame: &Sending,
-) -> Result<(), AllocError> {
-    let (x, receiver) = ends(times, frame);
-    let y = times.height(frame.step).saturating_add(AFTER);
-    let end = times.height(arrival.step);
-    let mut points = Vec::new(alloc);
-    points.push(Point { x, y })?;
-    points.push(Point {
-        x: towards(x, receiver, times.zone),
+    let y = times.height(step).saturating_add(BASE);
+    let last = times.runs.last(step);
+    let faint = letters(Anchor::Ends, Ink::Faint, false);
+    let numbers = Point {
+        x: times.numbers_end,
         y,
-    })?;
-    points.push(Point {
-        x: towards(receiver, x, times.zone),
-        y: end,
-    })?;
-    points.push(Point {
-        x: receiver,
-        y: end,
-    })?;
-    picture.add_line(Line {
-        points,
-        stroke: Stroke {
-            ink: arrival_ink(arrival, frame),
-            is_dashed: arrival.is_again,
-            ending: Ending::Head,
-        },
-        bends: false,
-    })
-}
-
-// Adds the text of a frame that came, above the end of its arrow.
-fn add_arrow_text(
-    alloc: Global,
-    picture: &mut Picture,
-    times: &Times,
-    arrival: Arrival,
-    frame: &Sending,
-) -> Result<(), AllocError> {
-    let (x, receiver) = ends(times, frame);
-    let at = Point {
-        x: towards(receiver, x, BESIDE),
-        y: times.height(arrival.step).saturating_sub(BASE),
     };
-    let look = lettering(
-        anchor_towards(receiver, x),
-        arrival_ink(arrival, frame),
-        false,
-    );
-    picture.add_label(at, arrival_text(alloc, arrival, frame)?, look)
+    picture.add_label(
+        numbers,
+        step_numbers(alloc, history.gone, step, last)?,
+        faint,
+    )?;
+    let line = Point {
+        x: times.lines_end,
+        y,
+    };
+    picture.add_label(line, number_text(alloc, moment.line)?, faint)?;
+    let words = Point {
+        x: times.lines_end.saturating_add(BESIDE),
+        y,
+    };
+    let look = letters(Anchor::Begins, moment.ink, false);
+    picture.add_label(words, step_words(alloc, history, moment, last)?, look)
 }
 
-// What is written beside a frame that came.
-fn arrival_text(alloc: Global, arrival: Arrival, frame: &Sending) -> Result<String, AllocError> {
-    let text = frame.text.as_str();
-    match arrival.refused {
-        Some(number) => format!(in alloc; "{number}: {text}"),
-        None => frame.text.clone(),
+// The number of a step, behind this many before what is drawn; or the first and the last of several.
+fn step_numbers(
+    alloc: Global,
+    gone: usize,
+    step: usize,
+    last: Option<usize>,
+) -> Result<String, AllocError> {
+    let number = gone.saturating_add(step).saturating_add(1);
+    match last {
+        Some(last) => {
+            let end = gone.saturating_add(last).saturating_add(1);
+            format!(in alloc; "{number}-{end}")
+        }
+        None => number_text(alloc, number),
     }
+}
+
+fn number_text(alloc: Global, number: usize) -> Result<String, AllocError> {
+    format!(in alloc; "{number}")
+}
+
+// The words of a step; of several that are drawn as one also which frame comes last.
+fn step_words(
+    alloc: Global,
+    history: &History,
+    moment: &Moment,
+    last: Option<usize>,
+) -> Result<String, AllocError> {
+    match last {
+        Some(last) => {
+            let words = moment.text.as_str();
+            let number = number_brought(history, last);
+            format!(in alloc; "{words} to {number}")
+        }
+        None => moment.text.clone(),
+    }
+}
+
+// The number of the frame that a step brought.
+fn number_brought(history: &History, step: usize) -> usize {
+    for arrival in history.arrivals.as_slice() {
+        if arrival.step == step {
+            if let Some(frame) = history.frames.get(arrival.frame) {
+                return frame.number;
+            }
+        }
+    }
+    0
 }
 
 // Adds the rows, each at its federate's lifeline.
@@ -404,14 +378,14 @@ fn add_row(picture: &mut Picture, times: &Times, row: &RowMark) -> Result<(), Al
             x: x.saturating_sub(BESIDE),
             y: beside,
         };
-        let look = lettering(Anchor::Ends, Ink::Plain, false);
+        let look = letters(Anchor::Ends, Ink::Plain, false);
         picture.add_label(at, row.text.clone()?, look)
     } else {
         let at = Point {
             x: x.saturating_add(BESIDE),
             y: beside,
         };
-        let look = lettering(Anchor::Begins, Ink::Plain, false);
+        let look = letters(Anchor::Begins, Ink::Plain, false);
         picture.add_label(at, row.text.clone()?, look)
     }
 }

@@ -47,12 +47,12 @@ pub(crate) fn sign_class(sign: Sign) -> &'static str
 {
     match sign {
         Sign::Port | Sign::Startup | Sign::Row => "sign solid",
-        Sign::Timer | Sign::Action | Sign::Physical | Sign::Cut => "sign",
+        Sign::Timer | Sign::Action | Sign::Physical | Sign::Reaction | Sign::Cut => "sign",
     }
 }
 
 /// The shape of a mark, around its middle. A clock for timers, triangles for actions, one of them with a bar for
-/// physical ones.
+/// physical ones, a broad arrow for reactions.
 #[tactic(auto, unfolding(crate::specs::Svg::sign_shape))]
 pub(crate) fn sign_shape(sign: Sign) -> &'static str
     ensures { result.now ≡ sign_shape sign }
@@ -63,6 +63,7 @@ pub(crate) fn sign_shape(sign: Sign) -> &'static str
         Sign::Timer => "M-6 0A6 6 0 1 1 6 0A6 6 0 1 1 -6 0ZM0 -4V0L3 2",
         Sign::Action => "M0 -6L6 5H-6Z",
         Sign::Physical => "M0 -6L6 5H-6ZM-3 1H3",
+        Sign::Reaction => "M-8 -5H1L5 0L1 5H-8L-4 0Z",
         Sign::Row => "M-4 -4H4V4H-4Z",
         Sign::Cut => "M-8 0L-3 -5L3 5L8 0",
     }

@@ -117,6 +117,17 @@ pub struct Lettering {
     pub is_bold: bool,
 }
 
+/// A text in an ink.
+pub(crate) fn letters(anchor: Anchor, ink: Ink, is_bold: bool) -> Lettering
+    ensures { result ≡ record { anchor = anchor; ink = ink; is_bold = is_bold } }
+{
+    Lettering {
+        anchor,
+        ink,
+        is_bold,
+    }
+}
+
 /// A text; the point is on its base line.
 #[derive(Drop)]
 pub struct Label {
@@ -133,6 +144,7 @@ pub enum Sign {
     Timer,
     Action,
     Physical,
+    Reaction,
     Row,
     /// Where a federate forgot.
     Cut,

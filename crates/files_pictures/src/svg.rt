@@ -18,6 +18,7 @@ use std::io::Write;
 const STYLE: &str = r#"<style>
 text { font: 12px ui-monospace, "DejaVu Sans Mono", "Liberation Mono", monospace; paint-order: stroke; stroke: #fff; stroke-width: 4px; stroke-linejoin: round; }
 path { fill: none; }
+path:hover { stroke-width: 3; }
 .bold { font-weight: bold; }
 .dashed { stroke-dasharray: 5 3; }
 rect { fill: #fff; stroke: #57606a; }

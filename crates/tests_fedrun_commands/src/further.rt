@@ -70,8 +70,23 @@ deliver up src 2
                     &["[\n{\"ph\":", ANY, "\n]\n"],
                     &[],
                 ),
-                (&[&["draw", "f"], &["draw", "f", "-", "s"]], 0, PICTURE, &[]),
-                (&[&["draw", "f", "-"]], 2, &[], &["fedrun: usage\n"]),
+                (
+                    &[
+                        &["draw", "f"],
+                        &["draw", "f", "-", "s"],
+                        &["draw", "f", "--reactions"],
+                        &["draw", "f", "-", "s", "--from", "2", "--to", "2"],
+                    ],
+                    0,
+                    PICTURE,
+                    &[],
+                ),
+                (
+                    &[&["draw", "f", "-"], &["draw", "f", "-", "s", "--reactions"]],
+                    2,
+                    &[],
+                    &["fedrun: usage\n"],
+                ),
                 NOT_THERE,
             ],
         )],
@@ -117,5 +132,5 @@ deliver up src 2
 
 #[test]
 fn answers_frames_trace_draw_and_lint(rt: HostRuntime) {
-    assert_eq!(rt; answered(&rt, CASES), Ok(16));
+    assert_eq!(rt; answered(&rt, CASES), Ok(19));
 }

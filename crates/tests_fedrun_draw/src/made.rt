@@ -65,6 +65,16 @@ pub fn line_of(alloc: Global, count: usize, is_ring: bool) -> Result<Figures, Al
     Ok(all)
 }
 
+/// This many federates, each of which sends to one more.
+pub fn fan_in(alloc: Global, count: usize) -> Result<Figures, AllocError> {
+    let mut all = federates(alloc, count, 0)?;
+    all.figures.push(figure(alloc, count, count)?)?;
+    for rank in 0..count {
+        connect(alloc, &mut all, (rank, 0), (count, rank))?;
+    }
+    Ok(all)
+}
+
 /// 64 federates with four inputs each, of which 200 have a connection from somewhere.
 pub fn many(alloc: Global) -> Result<Figures, AllocError> {
     let mut all = federates(alloc, 64, 4)?;

@@ -44,6 +44,25 @@ pub fn wrong_line(picture: &Picture, all: &Figures) -> Option<&'static str> {
     None
 }
 
+/// Whether these texts have all of the wanted ones among them.
+pub fn has_texts(labels: &[Label], wanted: &[&str]) -> bool {
+    for text in wanted {
+        if !has_text(labels, text) {
+            return false;
+        }
+    }
+    true
+}
+
+fn has_text(labels: &[Label], text: &str) -> bool {
+    for label in labels {
+        if label.text.as_str() == text {
+            return true;
+        }
+    }
+    false
+}
+
 // What texts cover.
 fn text_areas(alloc: Global, labels: &[Label]) -> Result<Vec<Area>, AllocError> {
     let mut areas = Vec::new(alloc);

@@ -1,5 +1,5 @@
 //! How pictures are written.
-use fedrun_draw::{DrawFault, draw_federation, draw_schedule};
+use fedrun_draw::{DrawFault, Excerpt, draw_federation, draw_schedule};
 use files_script::read_script;
 use std::alloc::Global;
 use std::io;
@@ -34,11 +34,20 @@ fn draw(alloc: Global, out: &mut Narrow, schedule: Option<&str>) -> Option<Resul
     let federation = loaded(alloc, COUNTER, "")?;
     let plan = federation.plan();
     let Some(schedule) = schedule else {
-        return Some(draw_federation(alloc, out, plan));
+        return Some(draw_federation(alloc, out, plan, None));
     };
     let script = read_script(alloc, schedule.as_bytes(), plan).ok()?;
     let (programs, inputs) = (federation.programs(), federation.inputs());
-    Some(draw_schedule(alloc, out, plan, programs, inputs, &script, None))
+    Some(draw_schedule(
+        alloc,
+        out,
+        plan,
+        programs,
+        inputs,
+        &script,
+        None,
+        Excerpt::ALL,
+    ))
 }
 
 /// More bytes than these pictures have.

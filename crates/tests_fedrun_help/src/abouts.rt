@@ -33,9 +33,9 @@ fn named(name: &str) -> Option<&'static CommandWords> {
 const HELPS: &[(&str, &str)] = &[
     (
         "draw",
-        "  fedrun draw FED [IN SCHEDULE] [--until-stuck N]
+        "  fedrun draw FED [IN SCHEDULE] [--until-stuck N] [--from STEP] [--to STEP] [--reactions]
       a picture of the federation, or of a schedule, as SVG
-      Closing rounds are for a schedule alone.
+      Closing rounds and steps are for a schedule alone, reactions for a federation alone.
   FED
       a federation file, or - for standard input
   IN
@@ -44,6 +44,12 @@ const HELPS: &[(&str, &str)] = &[
       a schedule file: which frame comes when, twice, late or never
   --until-stuck N
       after the schedule, closing rounds until nothing is left to do, at most N
+  --from STEP
+      of all steps, which are made, those from the STEP-th on are drawn
+  --to STEP
+      and those to the STEP-th
+  --reactions
+      in each box its reactions, with triggers, outputs, actions and delays
 ",
     ),
     (
@@ -66,7 +72,7 @@ const HELPS: &[(&str, &str)] = &[
     (
         "coordinate",
         "  fedrun coordinate FED IN --listen ADDRESS:PORT --report FILE [--secret FILE] [--patience SECONDS] \
-                [--sync disk|system|no]
+                [--sync disk|system|no] [--log]
       the coordinator alone, for federates on other machines; it writes a report
       At an address that isn't on loopback a secret is needed. The reports of all nodes are for audit.
       Killed in the midst, it goes on from its log by the same words again; with --sync no it has none.
@@ -84,6 +90,8 @@ const HELPS: &[(&str, &str)] = &[
       it gives up once nobody was heard for so long
   --sync disk|system|no
       what has its log before anything leaves it, the disk or the system; the disk where it isn't given
+  --log
+      lines on standard error say who connects, who is lost, who is refused and why, and when it is finished
 ",
     ),
     (
@@ -147,7 +155,7 @@ const PARTS: &[(AboutTopic, &str, &[&str], &str)] = &[
         &[
             "names=' run record whole check ",
             " audit help completions man'\n",
-            "\n      draw) words='--help --until-stuck' ;;\n      lint) words='--help --source' ;;\n      \
+            "\n      draw) words='--help --until-stuck --from --to --reactions' ;;\n      lint) words='--help --source' ;;\n      \
              expand) words='--help --each --out' ;;\n",
         ],
         "\ncomplete -o default -F _fedrun fedrun\n",
@@ -229,7 +237,7 @@ fn has_plain_texts(command: &CommandWords) -> bool {
 
 #[test]
 fn shells_take_nothing_in_the_table_for_their_own(rt: HostRuntime) {
-    for command in all_commands() {
+    for command in all_commands().iter() {
         assert!(rt; has_plain_texts(command), "{}", command.name);
     }
 }

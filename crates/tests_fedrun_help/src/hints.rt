@@ -71,11 +71,27 @@ const TOLD: &[(&[&str], &[&str])] = &[
             "f",
             "-",
             "--listen",
-            "here:7000",
+            "10.0.0.256:7000",
             "--report",
             "r",
         ],
-        &["'here:7000' for 'listen'", "127.0.0.1:7000"],
+        &[
+            "'10.0.0.256:7000' for 'listen'",
+            "a host's name",
+            "127.0.0.1:7000",
+        ],
+    ),
+    (
+        &[
+            "coordinate",
+            "f",
+            "-",
+            "--listen",
+            "here:+7000",
+            "--report",
+            "r",
+        ],
+        &["'here:+7000' for 'listen'", "localhost:7000"],
     ),
     (
         &[
@@ -141,6 +157,15 @@ const TOLD: &[(&[&str], &[&str])] = &[
         &["IN and SCHEDULE", "Usage: fedrun draw FED [IN SCHEDULE]"],
     ),
     (&["draw", "f", "--until-stuck", "7"], &["IN and SCHEDULE"]),
+    (&["draw", "f", "--to", "7"], &["IN and SCHEDULE"]),
+    (
+        &["draw", "f", "-", "s", "--from", "x"],
+        &["'x' for 'from'", "a whole number from 0 to 4294967295"],
+    ),
+    (
+        &["draw", "f", "-", "s", "--reactions"],
+        &["reactions for a federation alone", "[--reactions]"],
+    ),
 ];
 
 // Whether all of these are told of the words.
@@ -162,7 +187,9 @@ fn tells_what_isnt_taken_and_what_was_expected(rt: HostRuntime) {
 const TAKEN: &[&[&str]] = &[
     &["run", "f", "-", "--turns", "7", "--frames", "2"],
     &["draw", "f"],
+    &["draw", "f", "--reactions"],
     &["draw", "f", "-", "s", "--until-stuck", "7"],
+    &["draw", "f", "-", "s", "--from", "7", "--to", "9"],
     &[
         "coordinate",
         "f",
@@ -171,6 +198,16 @@ const TAKEN: &[&[&str]] = &[
         "10.0.0.1:1",
         "--report",
         "r",
+    ],
+    &[
+        "coordinate",
+        "f",
+        "-",
+        "--listen",
+        "here:7000",
+        "--report",
+        "r",
+        "--log",
     ],
     &["help", "run"],
     &["run", "--help"],
@@ -184,17 +221,17 @@ fn tells_nothing_of_words_that_are_taken(rt: HostRuntime) {
     }
 }
 
-/// Words, how many of them are left, and whether hints are asked for.
-const ASKED: &[(&[&str], usize, bool)] = &[
-    (&[], 0, false),
-    (&["--hints", "run", "f"], 2, true),
-    (&["--hints=never", "run"], 1, false),
-    (&["run", "--hints"], 2, false),
-    (&["--hints", "--hints"], 1, true),
+/// Words, how many of them are left, and what is said of hints.
+const ASKED: &[(&[&str], usize, Option<bool>)] = &[
+    (&[], 0, None),
+    (&["--hints", "run", "f"], 2, Some(true)),
+    (&["--hints=never", "run"], 1, Some(false)),
+    (&["run", "--hints"], 2, None),
+    (&["--hints", "--hints"], 1, Some(true)),
 ];
 
-// Whether so many words are left, and hints are asked for, as is said.
-fn is_asked(alloc: Global, words: &[&str], left: usize, wanted: bool) -> bool {
+// Whether so many words are left, and this is said of hints.
+fn is_asked(alloc: Global, words: &[&str], left: usize, wanted: Option<bool>) -> bool {
     match given(alloc, words) {
         Some(words) => {
             let (rest, hints) = asks_for_hints(words.as_slice());

@@ -29,6 +29,8 @@ mod told;
 #[cfg(test)]
 mod versions;
 #[cfg(test)]
+mod watched;
+#[cfg(test)]
 mod words;
 #[cfg(test)]
 mod worked;

@@ -9,6 +9,7 @@ use std::io::Write;
 use std::net::{Net, TcpListener, TcpStream};
 use std::random::RandomSource;
 use tests_samples::{COUNTER, Machine, REPLACED};
+use wires_hosts::Teller;
 
 /// The secret of all nodes.
 pub const SECRET: &str = "0123456789abcdef0123456789abcdef";
@@ -109,11 +110,30 @@ pub fn commanded<
     logs: &mut L,
     out: &mut O,
 ) -> Option<(u8, Vec<u8>)> {
+    watched(rt, texts, secret, disk, logs, out, Teller::silent())
+}
+
+/// The same where this tells what happens.
+pub fn watched<
+    R: Machine + Net<Stream = TcpStream, Listener = TcpListener> + RandomSource,
+    D: Disk,
+    L: LogDisk<V>,
+    V: Device + Drop + Send,
+    O: Write,
+>(
+    rt: &R,
+    texts: &[&str],
+    secret: &str,
+    disk: &mut D,
+    logs: &mut L,
+    out: &mut O,
+    teller: Teller,
+) -> Option<(u8, Vec<u8>)> {
     let alloc = rt.alloc();
     let words = given(alloc, texts)?;
     let mut files = NodeFiles { alloc, secret };
     let mut err = Vec::new(alloc);
-    let status = node_command(rt, &words, &mut files, disk, logs, out, &mut err);
+    let status = node_command(rt, &words, &mut files, disk, logs, out, &mut err, &teller);
     Some((status, err))
 }
 

@@ -36,6 +36,11 @@ const NOT_BEGUN: &[(&str, u8, &str)] = &[
         "fedrun: 114 NoSecret\n",
     ),
     (
+        "coordinate f i --listen localhost:0 --report new --sync no",
+        2,
+        "fedrun: 114 NoSecret\n",
+    ),
+    (
         "coordinate f i --listen 127.0.0.1:0 --report r --sync no",
         1,
         "fedrun: 116 ReportExists r\n",
@@ -66,7 +71,7 @@ const NOT_BEGUN: &[(&str, u8, &str)] = &[
         "fedrun: usage\n",
     ),
     (
-        "coordinate f i --listen localhost:0 --report new --sync no",
+        "coordinate f i --listen localhost --report new --sync no",
         2,
         "fedrun: usage\n",
     ),

@@ -125,9 +125,9 @@ pub fn run<R: Machine + Net<Stream = TcpStream, Listener = TcpListener> + Random
     Some(is_right && are_right?)
 }
 
-// Whether federates end so that connect where the coordinator says that it listens, and it says behind that what it
-// should.
-fn connect<R: Machine + Net<Stream = TcpStream, Listener = TcpListener> + RandomSource>(
+/// Whether federates end so that connect where the coordinator says that it listens, and it says behind that what it
+/// should.
+pub fn connect<R: Machine + Net<Stream = TcpStream, Listener = TcpListener> + RandomSource>(
     rt: &R,
     files: &SharedFiles,
     coordinator: &Node<'_>,

@@ -234,7 +234,7 @@ fn reads_record(rt: HostRuntime) {
 }
 
 // Words of `frames`, `trace`, `draw` and `lint`, and the request that they are.
-fn looked_at() -> [(&'static [&'static str], Request<'static>); 9] {
+fn looked_at() -> [(&'static [&'static str], Request<'static>); 11] {
     [
         (
             &["frames", "f", "-", "s"],
@@ -274,7 +274,17 @@ fn looked_at() -> [(&'static [&'static str], Request<'static>); 9] {
         ),
         (
             &["draw", "f"],
-            Request::DrawFederation(DrawFederationRequest { federation: "f" }),
+            Request::DrawFederation(DrawFederationRequest {
+                federation: "f",
+                reactions: false,
+            }),
+        ),
+        (
+            &["draw", "--reactions", "f"],
+            Request::DrawFederation(DrawFederationRequest {
+                federation: "f",
+                reactions: true,
+            }),
         ),
         (
             &["draw", "f", "-", "s"],
@@ -283,6 +293,8 @@ fn looked_at() -> [(&'static [&'static str], Request<'static>); 9] {
                 inputs: "-",
                 schedule: "s",
                 until_stuck: None,
+                from: None,
+                to: None,
             }),
         ),
         (
@@ -292,6 +304,19 @@ fn looked_at() -> [(&'static [&'static str], Request<'static>); 9] {
                 inputs: "i",
                 schedule: "s",
                 until_stuck: Some(0),
+                from: None,
+                to: None,
+            }),
+        ),
+        (
+            &["draw", "f", "-", "s", "--to", "9", "--from=07"],
+            Request::DrawSchedule(DrawScheduleRequest {
+                federation: "f",
+                inputs: "-",
+                schedule: "s",
+                until_stuck: None,
+                from: Some(7),
+                to: Some(9),
             }),
         ),
         (
@@ -424,6 +449,13 @@ const REFUSED: &[&[&str]] = &[
     &["draw", "f", "--until-stuck", "1"],
     &["draw", "f", "-", "--until-stuck", "1"],
     &["draw", "f", "-", "s", "--until-stuck", "x"],
+    &["draw", "f", "-", "s", "--from", "x"],
+    &["draw", "f", "-", "s", "--from", "1", "--from", "2"],
+    &["draw", "f", "--from", "1"],
+    &["draw", "f", "--to", "1"],
+    &["draw", "f", "-", "s", "--reactions"],
+    &["draw", "f", "--reactions", "--until-stuck", "1"],
+    &["draw", "f", "--reactions", "--reactions"],
     &["lint"],
     &["lint", "f", "-", "s"],
     &["lint", "f", "--csv"],

@@ -2,12 +2,12 @@
 use crate::entrance::{
     Entrance, Host, LONG_MS, Machine, greeting_at, host_of, host_to, listener_of, visited,
 };
-use crate::process::{Meeting, Process, meet, met};
+use crate::process::{Meeting, Process, is_told, meet, met};
 use crate::simulated::{Counting, EndsAt, Meanwhile, Nothing, Simulated, attempted_until};
 use std::io::Read;
 use std::net::{Net, TcpListener, TcpStream};
 use std::time::Duration;
-use wires_hosts::{DialFault, FederateHost, HostDial};
+use wires_hosts::{DialFault, FederateHost, Happening, HostDial};
 use wires_transports::{Dial, Transport};
 
 // A federate's process that connects to where nobody listens.
@@ -18,26 +18,52 @@ fn host_to_nobody<R: Net<Stream = TcpStream, Listener = TcpListener>>(
     host_to(&listener)
 }
 
-// When each of some attempts that come to nothing was over, in ms: ten in a row, and three behind something that was
-// heard. An attempt itself takes no time, for nobody is there.
+// When each of some attempts that come to nothing was over, in ms. None where whoever watches isn't told of them as he
+// should be.
 fn attempted_at<R: Machine + Net<Stream = TcpStream, Listener = TcpListener>>(
     rt: &R,
 ) -> Option<[u64; 13]> {
     let host = host_to_nobody(rt)?;
     let process = Process::new(rt.alloc())?;
+    let times = attempted_by(rt, &process, &host);
+    if are_few_told(rt, &process, &host) {
+        Some(times)
+    } else {
+        None
+    }
+}
+
+// The same of this process: ten attempts in a row, and three behind something that was heard. An attempt itself takes no
+// time, for nobody is there.
+fn attempted_by<R: Machine + Net<Stream = TcpStream, Listener = TcpListener>>(
+    rt: &R,
+    process: &Process,
+    host: &FederateHost,
+) -> [u64; 13] {
     let source = Counting::new();
     let machine = Simulated::new(rt, &source, Nothing);
     let dial = HostDial::new(
         &machine,
-        host,
+        *host,
         &process.heard,
         &process.barrier,
         &process.last,
         &process.ending,
     );
     let mut times = [u64::MAX; 13];
-    attempt_all(rt, &dial, &process, &machine, &mut times);
-    Some(times)
+    attempt_all(rt, &dial, process, &machine, &mut times);
+    times
+}
+
+// Whether it is told of the first, second, fourth and eighth of attempts that nobody answers, and of no other.
+fn are_few_told<R: Machine>(rt: &R, process: &Process, host: &FederateHost) -> bool {
+    [1, 2, 4, 8].iter().all(|count| {
+        is_told(
+            rt,
+            &process.told,
+            Happening::Failed(host.address, DialFault::NotConnected, *count),
+        )
+    }) && process.told.try_recv(rt).is_err()
 }
 
 // Makes these attempts, and notes when each of them was over. One that comes to something else is never over.

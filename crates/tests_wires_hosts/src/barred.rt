@@ -3,14 +3,14 @@
 use crate::entrance::{
     Entrance, Host, Machine, gets_no_more, host_of, listener_of, told_behind, visited,
 };
-use crate::process::{CountingBarrier, Process};
+use crate::process::{CountingBarrier, Process, told_by_now};
 use crate::simulated::{Meanwhile, Nothing, let_in_for, watched_until};
 use std::alloc::Global;
 use std::net::{Net, TcpListener, TcpStream};
 use std::sync::Wait;
 use std::thread;
 use std::time::Duration;
-use wires_hosts::{DialFault, HeardTransport};
+use wires_hosts::{DialFault, GivenUp, Happening, HeardTransport};
 use wires_transports::{Transport, pair};
 
 // Which of three sends succeed, the last one of which is refused.
@@ -70,9 +70,9 @@ impl<'a> Meanwhile for Course<'a> {
     }
 }
 
-// When a run is over whose barrier refuses from this time on, in ms, and whether it was given up. It ends by itself
-// after 1 s, and is watched with any patience.
-fn over_at<R: Machine>(rt: &R, fails_ms: u64) -> Option<(u64, bool)> {
+// When a run is over whose barrier refuses from this time on, in ms, whether it was given up, and what whoever watches
+// was told. It ends by itself after 1 s, and is watched with any patience.
+fn over_at<R: Machine>(rt: &R, fails_ms: u64) -> Option<(u64, bool, Option<Happening>)> {
     let process = Process::new(rt.alloc())?;
     let course = Course {
         process: &process,
@@ -80,14 +80,22 @@ fn over_at<R: Machine>(rt: &R, fails_ms: u64) -> Option<(u64, bool)> {
         ends_ms: 1000,
     };
     let ms = watched_until(rt, &process, None, course);
-    Some((ms, process.heard.has_given_up()))
+    Some((
+        ms,
+        process.heard.has_given_up(),
+        told_by_now(rt, &process.told),
+    ))
 }
 
 // The other run ends by itself, in which all is kept until then.
 #[test]
 fn a_run_is_given_up_in_which_nothing_may_leave(rt: HostRuntime) {
     let over = [over_at(&rt, 300), over_at(&rt, 2000)];
-    assert_eq!(rt; over, [Some((300, true)), Some((1000, false))]);
+    let told = Happening::GaveUp(GivenUp::Unkept);
+    assert_eq!(rt;
+        over,
+        [Some((300, true, Some(told))), Some((1000, false, None))]
+    );
 }
 
 // How long a coordinator with such a barrier tells that the run is finished, in ms, where nobody asks, and how often the

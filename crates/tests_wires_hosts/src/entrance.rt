@@ -11,7 +11,9 @@ use std::thread::Threads;
 use std::time::{Clock, Duration};
 use std::{io, thread};
 use wires_greeting::{CoordinatorSide, FederateSide, Greeting, Key};
-use wires_hosts::{FederateHost, HeardTransport, HostAcceptor, HostEntrance, listen_at};
+use wires_hosts::{
+    FederateHost, HeardTransport, HostAcceptor, HostAddress, HostEntrance, listen_at,
+};
 use wires_transports::{Accepted, Acceptor, Connection, TcpCut, TcpTransport, Transport};
 
 /// What a test's connections need of the machine, beside the network.
@@ -80,7 +82,7 @@ impl RandomSource for Known {
 pub fn listener_of<R: Net<Stream = TcpStream, Listener = TcpListener>>(
     rt: &R,
 ) -> Option<TcpListener> {
-    listen_at(rt, SocketAddr::from(([127, 0, 0, 1], 0))).ok()
+    listen_at(rt, HostAddress::At(SocketAddr::from(([127, 0, 0, 1], 0)))).ok()
 }
 
 /// One that waits until somebody connects.
@@ -231,7 +233,7 @@ pub fn key_of(secret: &[u8]) -> Option<Key> {
 /// A federate's process of this number that has what the coordinator at this address has.
 pub fn host_of(address: SocketAddr, federate: u16) -> Option<FederateHost> {
     Some(FederateHost {
-        address,
+        address: HostAddress::At(address),
         key: key_of(SECRET)?,
         files: FILES,
         federate,

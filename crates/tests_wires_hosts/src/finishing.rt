@@ -2,14 +2,14 @@
 use crate::entrance::{
     Entrance, Host, LONG_MS, Machine, challenged, gets_no_more, host_of, is_closed, told_behind,
 };
-use crate::process::Process;
+use crate::process::{Process, is_told};
 use std::io::Write;
 use std::net::{Net, TcpListener, TcpStream};
 use std::time::{Duration, Instant};
-use wires_hosts::DialFault;
+use wires_hosts::{DialFault, Happening};
 
-// Whether all federates' processes hear that the run is finished, and end by it.
-fn all_hear<R: Host + Net<Stream = TcpStream, Listener = TcpListener>>(
+/// Whether all federates' processes hear that the run is finished, and end by it.
+pub fn all_hear<R: Host + Net<Stream = TcpStream, Listener = TcpListener>>(
     rt: &R,
     entrance: &Entrance<'_>,
 ) -> Option<bool> {
@@ -23,12 +23,20 @@ fn all_hear<R: Host + Net<Stream = TcpStream, Listener = TcpListener>>(
     Some(true)
 }
 
-// The run is finished: whether all federates' processes hear it, and end by it.
+// The run is finished: whether all federates' processes hear it, and end by it, and whoever watches is told of each.
 fn are_told<R: Host + Net<Stream = TcpStream, Listener = TcpListener>>(
     rt: &R,
     entrance: &Entrance<'_>,
 ) -> Option<bool> {
-    Some(gets_no_more(rt, entrance) && all_hear(rt, entrance)?)
+    let no_more = gets_no_more(rt, entrance);
+    Some(no_more && all_hear(rt, entrance)? && are_hearers_told(rt, entrance.coordinator))
+}
+
+// Whether whoever watches the coordinator is told next that each federate heard it.
+fn are_hearers_told<R: Host>(rt: &R, coordinator: &Process) -> bool {
+    is_told(rt, &coordinator.told, Happening::Told(0))
+        && is_told(rt, &coordinator.told, Happening::Told(1))
+        && is_told(rt, &coordinator.told, Happening::Told(2))
 }
 
 // Whether that was before the coordinator's patience was over.

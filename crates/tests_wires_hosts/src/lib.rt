@@ -1,5 +1,5 @@
-//! Tests of connections between machines, over TCP on loopback: who is let in, who isn't and what comes of it, and who
-//! hears that the run is finished. No program uses this crate.
+//! Tests of connections between machines, over TCP on loopback: who is let in, who isn't and what comes of it, who hears
+//! that the run is finished, and what whoever watches is told of all this. No program uses this crate.
 //!
 //! Begin with `process` and `entrance`, then `letting_in`; where time is the subject, with `simulated`, then `silences`.
 #![tactic(auto)]
@@ -17,6 +17,8 @@ mod hearing;
 #[cfg(test)]
 mod letting_in;
 #[cfg(test)]
+mod names;
+#[cfg(test)]
 mod process;
 #[cfg(test)]
 mod refusals;
@@ -28,6 +30,8 @@ mod simulated;
 mod sources;
 #[cfg(test)]
 mod strangers;
+#[cfg(test)]
+mod told;
 #[cfg(test)]
 mod waiting;
 #[cfg(test)]

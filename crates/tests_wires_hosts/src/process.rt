@@ -1,13 +1,15 @@
 //! A process of a run between machines, the coordinator's or a federate's, and what a test has it do.
-use crate::entrance::{Host, Machine, Own, host_to, listener_of, waiting_listener_of};
+use crate::entrance::{Host, LONG_MS, Machine, Own, host_to, listener_of, waiting_listener_of};
+use crossbeam_channel::Receiver;
 use std::alloc::Global;
 use std::net::{Net, TcpListener, TcpStream};
 use std::sync::Wait;
 use std::sync::atomic::{AtomicBool, AtomicU64, Ordering};
-use std::thread;
-use std::time::Duration;
+use std::time::{Clock, Duration};
+use std::{io, thread};
 use wires_hosts::{
-    Barrier, DialFault, FederateHost, Heard, HostDial, LastConnection, Patience, Unkept,
+    Barrier, DialFault, FederateHost, Happened, Happening, Heard, HostDial, LastConnection,
+    Patience, Teller, Told, Unkept,
 };
 use wires_transports::{Dial, Ending};
 
@@ -67,10 +69,54 @@ impl Barrier for CountingBarrier {
     }
 }
 
+/// A clock that stands still.
+#[derive(Drop)]
+struct Still;
+
+impl Clock for Still {
+    fn monotonic(&self) -> io::Result<Duration> {
+        Ok(Duration::from_secs(0))
+    }
+
+    fn since_1970(&self) -> io::Result<Duration> {
+        Ok(Duration::from_secs(0))
+    }
+}
+
+/// What is told next, once it is.
+pub fn next_told<R: Host>(rt: &R, told: &Receiver<Told>) -> Option<Happened> {
+    let next = told.recv_timeout(rt, Duration::from_millis(LONG_MS)).ok()?;
+    happened(&next)
+}
+
+/// What is told next, if it is by now.
+pub fn told_by_now<R: Host>(rt: &R, told: &Receiver<Told>) -> Option<Happening> {
+    let next = told.try_recv(rt).ok()?;
+    Some(happened(&next)?.what)
+}
+
+// What happened, by what is told that is no names.
+fn happened(told: &Told) -> Option<Happened> {
+    match told {
+        Told::Happened(happened) => Some(*happened),
+        Told::Federates(_) => None,
+    }
+}
+
+/// Whether it is told next that this happened, once something is.
+pub fn is_told<R: Host>(rt: &R, told: &Receiver<Told>, what: Happening) -> bool {
+    match next_told(rt, told) {
+        Some(happened) => happened.what == what,
+        None => false,
+    }
+}
+
 /// What a process has heard, what stands between it and all that leaves it, and whether its run is to end.
 #[derive(Drop)]
 pub struct Process {
     pub heard: Heard,
+    /// What whoever watches it is told.
+    pub told: Receiver<Told>,
     pub barrier: CountingBarrier,
     pub last: LastConnection,
     pub ending: Ending,
@@ -84,8 +130,10 @@ impl Process {
 
     /// The coordinator's of this many federates.
     pub fn of(alloc: Global, federates: usize) -> Option<Process> {
+        let (teller, told) = Teller::watched(&Still, alloc).ok()?;
         Some(Process {
-            heard: Heard::new(alloc, federates).ok()?,
+            heard: Heard::watched(alloc, federates, teller).ok()?,
+            told,
             barrier: CountingBarrier::new(),
             last: LastConnection::new(),
             ending: Ending::new(),
@@ -120,7 +168,7 @@ impl Process {
         self.dial(rt, alloc, host).is_none()
     }
 
-    /// Whether the first attempt came to nothing for this, and whether the run is to end by it.
+    /// Whether the first attempt came to nothing for this, of which it is told, and whether the run is to end by it.
     pub fn is_refused<R: Host + Net<Stream = TcpStream, Listener = TcpListener>>(
         &self,
         rt: &R,
@@ -129,9 +177,11 @@ impl Process {
         fault: DialFault,
         ends: bool,
     ) -> bool {
+        let told = told_of(&host, fault, ends);
         self.is_in_vain(rt, alloc, host)
             && self.heard.last_fault() == Some(fault)
             && self.ending.is_set() == ends
+            && told_by_now(rt, &self.told) == told
     }
 
     /// What watches its run, and its last connection, with this patience.
@@ -143,6 +193,16 @@ impl Process {
             most,
             last: Some(&self.last),
         }
+    }
+}
+
+// What is told where the first attempt comes to nothing for this: nothing where it is broken off, since the run is to
+// end.
+fn told_of(host: &FederateHost, fault: DialFault, ends: bool) -> Option<Happening> {
+    match fault {
+        DialFault::Finished => Some(Happening::Finished),
+        DialFault::NoAnswer if ends => None,
+        _ => Some(Happening::Failed(host.address, fault, 1)),
     }
 }
 

@@ -14,3 +14,9 @@ pub mod Draw
 pub mod Hello
 -- How long nothing was heard.
 pub mod Silence
+-- How many attempts to connect in a row come to the same.
+pub mod Attempts
+-- Why a connection that came to the coordinator isn't let in.
+pub mod NotLetIn
+-- Which of the connections to the coordinator that are known have ended.
+pub mod Attendance

@@ -1,9 +1,13 @@
 use crate::dial_fault::DialFault;
+use crate::happening::Happening;
+use crate::teller::Teller;
 use std::alloc::{AllocError, Global};
+use std::sync::Wait;
 use std::sync::atomic::{AtomicBool, AtomicU64, Ordering};
+use std::time::Clock;
 use wires_transports::Ending;
 
-/// What one process has heard, shared by its threads by reference.
+/// What one process has heard, shared by its threads by reference; and to whom they tell what happens.
 #[derive(Drop)]
 pub struct Heard {
     count: AtomicU64,
@@ -12,19 +16,36 @@ pub struct Heard {
     gave_up: AtomicBool,
     // Whether each federate was told that the run is finished, by its number.
     told: Vec<AtomicBool>,
+    // Of each federate by its number, which of its connections ended last, by that one's number; 0 where none did.
+    ended: Vec<AtomicU64>,
+    teller: Teller,
 }
 
 impl Heard {
-    /// Nothing so far. A coordinator has this many federates, and a federate's process has none.
+    /// Nothing so far. A coordinator has this many federates, and a federate's process has none. Nobody watches.
     pub fn new(alloc: Global, federates: usize) -> Result<Heard, AllocError> {
+        Heard::watched(alloc, federates, Teller::silent())
+    }
+
+    /// The same, where this tells what happens.
+    pub fn watched(alloc: Global, federates: usize, teller: Teller) -> Result<Heard, AllocError> {
         let mut told = Vec::new(alloc);
         told.resize_with(federates, || AtomicBool::new(false))?;
+        let mut ended = Vec::new(alloc);
+        ended.resize_with(federates, || AtomicU64::new(0))?;
         Ok(Heard {
             count: AtomicU64::new(0),
             fault: AtomicU64::new(DialFault::note(None)),
             gave_up: AtomicBool::new(false),
             told,
+            ended,
+            teller,
         })
+    }
+
+    /// Tells whoever watches that this happened. It waits for nobody.
+    pub fn tell<R: Wait, C: Clock>(&self, rt: &R, clock: &C, what: Happening) {
+        self.teller.tell(rt, clock, what);
     }
 
     /// Something was heard.
@@ -82,5 +103,20 @@ impl Heard {
         self.told
             .iter()
             .all(|is_told| is_told.load(Ordering::SeqCst))
+    }
+
+    /// Nothing more comes on the connection of this number, which is this federate's.
+    pub(crate) fn note_ended(&self, federate: u16, connection: u64) {
+        if let Some(ended) = self.ended.get(usize::from(federate)) {
+            ended.store(connection, Ordering::SeqCst);
+        }
+    }
+
+    /// Which of this federate's connections ended last, by its number; 0 where none did.
+    pub(crate) fn ended(&self, federate: usize) -> u64 {
+        match self.ended.get(federate) {
+            Some(ended) => ended.load(Ordering::SeqCst),
+            None => 0,
+        }
     }
 }

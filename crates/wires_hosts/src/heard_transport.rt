@@ -1,12 +1,13 @@
 ghost use Rattle.std.specs.Prelude.{◌≡◌, ◌<◌, ◌+◌, IfErr, OnOk, OnErr};
 
+use crate::attendance::LetInFrom;
 use crate::barrier::{Barrier, Unkept};
 use crate::heard::Heard;
 use std::sync::Wait;
 use wires_transports::{Broken, Connection, Failures, Transport};
 
-/// One end of a connection, around another one: it counts each time that bytes came, and nothing leaves before the
-/// barrier lets it. It is otherwise the same.
+/// One end of a connection, around another one: it counts each time that bytes came, notes where no more come of a
+/// federate, and nothing leaves before the barrier lets it. It is otherwise the same.
 #[derive(Drop)]
 pub struct HeardTransport<'a, T: Transport, B: Barrier> {
     inner: T,
@@ -14,6 +15,8 @@ pub struct HeardTransport<'a, T: Transport, B: Barrier> {
     barrier: &'a B,
     // Sends that the barrier refused.
     refusals: Failures,
+    // Which federate it comes from, and which of its connections it is: at the coordinator.
+    from: Option<LetInFrom>,
 }
 
 impl<'a, T: Transport, B: Barrier> HeardTransport<'a, T, B> {
@@ -24,6 +27,7 @@ impl<'a, T: Transport, B: Barrier> HeardTransport<'a, T, B> {
             heard,
             barrier,
             refusals: Failures::new(),
+            from: None,
         }
     }
 
@@ -33,15 +37,38 @@ impl<'a, T: Transport, B: Barrier> HeardTransport<'a, T, B> {
         heard: &'a Heard,
         barrier: &'a B,
     ) -> Connection<HeardTransport<'a, T, B>, C> {
+        HeardTransport::around_let_in(connection, heard, barrier, None)
+    }
+
+    /// The same of this connection of a federate, at the coordinator: it is noted where nothing more comes on it.
+    pub(crate) fn around_let_in<C: Drop>(
+        connection: Connection<T, C>,
+        heard: &'a Heard,
+        barrier: &'a B,
+        from: Option<LetInFrom>,
+    ) -> Connection<HeardTransport<'a, T, B>, C> {
         let Connection {
             incoming,
             outgoing,
             cut,
         } = connection;
         Connection {
-            incoming: HeardTransport::new(incoming, heard, barrier),
+            incoming: HeardTransport {
+                inner: incoming,
+                heard,
+                barrier,
+                refusals: Failures::new(),
+                from,
+            },
             outgoing: HeardTransport::new(outgoing, heard, barrier),
             cut,
+        }
+    }
+
+    // Notes that nothing more comes.
+    fn note_ended(&self) {
+        if let Some(from) = self.from {
+            self.heard.note_ended(from.federate, from.connection);
         }
     }
 
@@ -76,8 +103,10 @@ impl<'a, T: Transport, B: Barrier> Transport for HeardTransport<'a, T, B> {
 
     fn recv<R: Wait>(&mut self, rt: &R, room: &mut [u8]) -> Result<usize, Broken> {
         let received = self.inner.recv(rt, room);
-        if let Ok(1..) = received {
+        if matches!(received, Ok(1..)) {
             self.heard.hear();
+        } else {
+            self.note_ended();
         }
         received
     }

@@ -1,6 +1,9 @@
 //! The worker that lets federates' processes in, for the coordinator's.
+use crate::attempts::{Refusals, Refused, is_told};
+use crate::attendance::{Attendance, LetInFrom};
 use crate::barrier::Barrier;
 use crate::draw::drawn;
+use crate::happening::Happening;
 use crate::heard::Heard;
 use crate::heard_transport::HeardTransport;
 use crate::pending_host::{HostState, PendingHost, Terms};
@@ -50,15 +53,24 @@ pub struct HostEntrance {
 /// what is silent keeps nobody else waiting. Once the run is to end, readers get no more connections, and what they
 /// haven't read to the end a second later is ended. Where the run is finished, and the barrier keeps all that made it so,
 /// whoever asks then is told, until all federates were, each of which proved it by the secret, or the patience is over.
+/// Whoever watches is told who is let in and who isn't, whose connection has ended, and who was told at the end.
 #[derive(Drop)]
 pub struct HostAcceptor<'a, S: RandomSource, B: Barrier> {
     random: &'a S,
     entrance: HostEntrance,
     heard: &'a Heard,
     barrier: &'a B,
-    current: HostConnections<'a, B>,
+    connected: Connected<'a, B>,
     // All federates may take part.
     allowed: Vec<bool>,
+}
+
+// The federates' connections.
+#[derive(Drop)]
+struct Connected<'a, B: Barrier> {
+    current: HostConnections<'a, B>,
+    attendance: Attendance,
+    refusals: Refusals,
 }
 
 impl<'a, S: RandomSource, B: Barrier> HostAcceptor<'a, S, B> {
@@ -73,13 +85,18 @@ impl<'a, S: RandomSource, B: Barrier> HostAcceptor<'a, S, B> {
     ) -> Result<HostAcceptor<'a, S, B>, AllocError> {
         let mut allowed = Vec::new(alloc);
         allowed.resize_with(readers.len(), || true)?;
+        let attendance = Attendance::new(alloc, readers.len())?;
         let current = CurrentConnections::new(alloc, readers)?;
         Ok(HostAcceptor {
             random,
             entrance,
             heard,
             barrier,
-            current,
+            connected: Connected {
+                current,
+                attendance,
+                refusals: Refusals::new(),
+            },
             allowed,
         })
     }
@@ -92,7 +109,7 @@ impl<'a, S: RandomSource, B: Barrier> Acceptor for HostAcceptor<'a, S, B> {
             entrance,
             heard,
             barrier,
-            mut current,
+            mut connected,
             allowed,
         } = self;
         let hearing = Hearing { heard, barrier };
@@ -101,8 +118,16 @@ impl<'a, S: RandomSource, B: Barrier> Acceptor for HostAcceptor<'a, S, B> {
             allowed: &allowed,
             is_finished: false,
         };
-        let pending = let_in_until(rt, alloc, &entrance, &terms, &hearing, &mut current, ending);
-        current.end(rt);
+        let pending = let_in_until(
+            rt,
+            alloc,
+            &entrance,
+            &terms,
+            &hearing,
+            &mut connected,
+            ending,
+        );
+        connected.current.end(rt);
         // What made the run finished may have caused nothing that left.
         if heard.is_finished(ending) && barrier.reach(rt).is_ok() {
             let terms = Terms {
@@ -117,7 +142,7 @@ impl<'a, S: RandomSource, B: Barrier> Acceptor for HostAcceptor<'a, S, B> {
                 &terms,
                 &hearing,
                 pending,
-                &mut current,
+                &mut connected,
             );
         }
     }
@@ -137,7 +162,7 @@ fn let_in_until<'a, R: Wait + Clock, S: RandomSource, B: Barrier>(
     entrance: &HostEntrance,
     terms: &Terms<'_, S>,
     hearing: &Hearing<'a, B>,
-    current: &mut HostConnections<'a, B>,
+    connected: &mut Connected<'a, B>,
     ending: &Ending,
 ) -> Vec<PendingHost> {
     let mut pending = Vec::new(alloc);
@@ -147,18 +172,32 @@ fn let_in_until<'a, R: Wait + Clock, S: RandomSource, B: Barrier>(
             break;
         }
         let has_come = accept_some(rt, entrance, terms.random, &mut pending);
-        if has_come || !pending.is_empty() || !current.are_all_there() {
+        if has_come || !pending.is_empty() || !connected.current.are_all_there() {
             calm = Deadline::after(rt, CALM_AFTER_MS);
         }
         if !has_come {
             thread::sleep(rt, Duration::from_millis(pause(calm.has_passed(rt))));
         }
-        pending = listen_to(rt, alloc, terms, hearing, pending, current);
+        pending = listen_to(rt, alloc, terms, hearing, pending, connected);
+        tell_lost(rt, hearing.heard, &mut connected.attendance, ending);
     }
     pending
 }
 
-// Tells whoever asks that the run is finished, where no reader gets a connection any more, until all federates were told or the patience is over.
+// Tells whoever watches which of the federates' connections have ended. Those that end since the run is to end aren't
+// lost: that is seen behind their end, so that none of them is taken for one that is.
+fn tell_lost<R: Wait + Clock>(rt: &R, heard: &Heard, attendance: &mut Attendance, ending: &Ending) {
+    for federate in 0..attendance.federate_count() {
+        if let Some(gone) = attendance.leave(federate, heard.ended(federate)) {
+            if !ending.is_set() {
+                heard.tell(rt, rt, Happening::Lost(gone.federate, gone.address));
+            }
+        }
+    }
+}
+
+// Tells whoever asks that the run is finished, where no reader gets a connection any more, until all federates were
+// told or the patience is over.
 fn tell_all<'a, R: Wait + Clock, S: RandomSource, B: Barrier>(
     rt: &R,
     alloc: Global,
@@ -166,7 +205,7 @@ fn tell_all<'a, R: Wait + Clock, S: RandomSource, B: Barrier>(
     terms: &Terms<'_, S>,
     hearing: &Hearing<'a, B>,
     pending: Vec<PendingHost>,
-    current: &mut HostConnections<'a, B>,
+    connected: &mut Connected<'a, B>,
 ) {
     let mut pending = pending;
     let patience = Deadline::after(rt, millis(entrance.patience));
@@ -177,7 +216,7 @@ fn tell_all<'a, R: Wait + Clock, S: RandomSource, B: Barrier>(
         if !accept_some(rt, entrance, terms.random, &mut pending) {
             thread::sleep(rt, Duration::from_millis(PAUSE_MS));
         }
-        pending = listen_to(rt, alloc, terms, hearing, pending, current);
+        pending = listen_to(rt, alloc, terms, hearing, pending, connected);
     }
 }
 
@@ -201,8 +240,8 @@ fn accept_some<R: Clock, S: RandomSource>(
 ) -> bool {
     let mut has_come = false;
     for _ in 0..AT_ONCE {
-        let stream = match entrance.listener.accept() {
-            Ok((stream, _)) => stream,
+        let (stream, address) = match entrance.listener.accept() {
+            Ok(come) => come,
             Err(error) => {
                 if error.kind() != ErrorKind::WouldBlock && !pending.is_empty() {
                     give_up_one(random, pending);
@@ -211,7 +250,7 @@ fn accept_some<R: Clock, S: RandomSource>(
             }
         };
         has_come = true;
-        if let Ok(host) = PendingHost::new(rt, stream, entrance.key, entrance.files) {
+        if let Ok(host) = PendingHost::new(rt, stream, address, entrance.key, entrance.files) {
             let _ = pending.push(host);
         }
         if pending.len() > PENDING_MOST {
@@ -240,7 +279,7 @@ fn listen_to<'a, R: Wait + Clock, S: RandomSource, B: Barrier>(
     terms: &Terms<'_, S>,
     hearing: &Hearing<'a, B>,
     pending: Vec<PendingHost>,
-    current: &mut HostConnections<'a, B>,
+    connected: &mut Connected<'a, B>,
 ) -> Vec<PendingHost> {
     let mut left = Vec::new(alloc);
     for mut host in pending {
@@ -248,15 +287,61 @@ fn listen_to<'a, R: Wait + Clock, S: RandomSource, B: Barrier>(
             HostState::NotYet => {
                 let _ = left.push(host);
             }
-            HostState::Hello(federate) => {
-                if let Some(accepted) = host.into_accepted(alloc, hearing.heard, hearing.barrier) {
-                    hearing.heard.hear();
-                    current.hand_on(rt, usize::from(federate), accepted);
-                }
+            HostState::Hello(federate) => admit(rt, alloc, hearing, host, federate, connected),
+            HostState::Told(federate) => {
+                hearing.heard.note_told(federate);
+                hearing.heard.tell(rt, rt, Happening::Told(federate));
             }
-            HostState::Told(federate) => hearing.heard.note_told(federate),
-            HostState::Closed => {}
+            HostState::Closed => tell_closed(rt, hearing.heard, &host, &mut connected.refusals),
         }
     }
     left
+}
+
+// Tells of a connection that is closed why whoever made it isn't let in; of many in a row that are alike, ever fewer.
+fn tell_closed<R: Wait + Clock>(
+    rt: &R,
+    heard: &Heard,
+    host: &PendingHost,
+    refusals: &mut Refusals,
+) {
+    if let Some(why) = host.not_let_in() {
+        let from = host.address.ip();
+        let count = refusals.refuse(Refused { from, why });
+        if is_told(count) {
+            heard.tell(rt, rt, Happening::Closed(host.address, why, count));
+        }
+    }
+}
+
+// Lets a connection in, which is this federate's. The older one, if there is one, is ended.
+fn admit<'a, R: Wait + Clock, B: Barrier>(
+    rt: &R,
+    alloc: Global,
+    hearing: &Hearing<'a, B>,
+    host: PendingHost,
+    federate: u16,
+    connected: &mut Connected<'a, B>,
+) {
+    let address = host.address;
+    let from = LetInFrom {
+        federate,
+        connection: connected.attendance.next_number(),
+        address,
+    };
+    if let Some(accepted) = host.into_accepted(alloc, hearing.heard, hearing.barrier, from) {
+        hearing.heard.hear();
+        connected.refusals = Refusals::new();
+        if let Some(older) = connected.attendance.come(from) {
+            hearing
+                .heard
+                .tell(rt, rt, Happening::Lost(federate, older.address));
+        }
+        hearing
+            .heard
+            .tell(rt, rt, Happening::LetIn(federate, address));
+        connected
+            .current
+            .hand_on(rt, usize::from(federate), accepted);
+    }
 }

@@ -3,19 +3,23 @@ ghost use Rattle.std.specs.Prelude.{◌≡◌, ◌⊎◌, None, Some, IsOk, IfEr
 ghost use Rattle.wires_hosts.specs.Attempt as definition;
 ghost use Rattle.wires_hosts.specs.DialFault.{by_state};
 
+use crate::attempts::{Attempts, is_told};
 use crate::back_off::BackOff;
 use crate::barrier::{Barrier, Unkept};
 use crate::dial_fault::DialFault;
+use crate::happening::Happening;
 use crate::heard::Heard;
 use crate::heard_transport::HeardTransport;
+use crate::host_address::HostAddress;
 use crate::incoming::Incoming;
 use crate::last_connection::LastConnection;
 use crate::source::random_bytes;
 use crate::times::ENDING_LOOK_MS;
 use std::alloc::Global;
 use std::io::Write;
-use std::net::{Net, SocketAddr, TcpListener, TcpStream};
+use std::net::{Net, TcpListener, TcpStream};
 use std::random::RandomSource;
+use std::sync::atomic::{AtomicBool, Ordering};
 use std::sync::{Arc, Wait};
 use std::time::{Clock, Duration};
 use std::{io, thread};
@@ -24,14 +28,14 @@ use wires_greeting::{
     RANDOM_SIZE,
 };
 use wires_transports::tcp::connection;
-use wires_transports::times::{CONNECT_MS, PAUSE_MS, SILENCE_MS};
+use wires_transports::times::{PAUSE_MS, SILENCE_MS};
 use wires_transports::{Connection, Cut, Deadline, Dial, Ending, TcpCut, TcpTransport};
 
 /// Whom a federate's process connects, and where to.
 #[derive(Clone, Copy)]
 pub struct FederateHost {
-    /// The coordinator's address.
-    pub address: SocketAddr,
+    /// Where the coordinator listens.
+    pub address: HostAddress,
     pub key: Key,
     /// The digest of its files, by `files_digest`.
     pub files: [u8; DIGEST_SIZE],
@@ -41,7 +45,8 @@ pub struct FederateHost {
 
 /// Makes a federate's connections to the coordinator's process. What an attempt came to is noted; where the coordinator
 /// refused, the run is to end. Each connection is noted as the last one. Before an attempt it waits as `BackOff` says,
-/// and not past the end of the run.
+/// and not past the end of the run. Whoever watches is told of each connection, of its end, and of attempts that come
+/// to nothing, as `Attempts` counts them.
 #[derive(Drop)]
 pub struct HostDial<
     'a,
@@ -55,6 +60,9 @@ pub struct HostDial<
     last: &'a LastConnection,
     ending: &'a Ending,
     back_off: BackOff,
+    attempts: Attempts,
+    // Whether the last attempt came to a connection of whose end nothing was told.
+    is_connected: AtomicBool,
 }
 
 impl<
@@ -79,6 +87,23 @@ impl<
             last,
             ending,
             back_off: BackOff::new(),
+            attempts: Attempts::new(),
+            is_connected: AtomicBool::new(false),
+        }
+    }
+
+    // Tells whoever watches that this happened.
+    fn tell<R: Wait>(&self, rt: &R, what: Happening) {
+        self.heard.tell(rt, self.machine, what);
+    }
+
+    // Tells of an attempt that came to nothing, unless it was broken off since the run is to end.
+    fn tell_failure<R: Wait>(&self, rt: &R, fault: DialFault) {
+        let count = self.attempts.fail(fault);
+        match fault {
+            DialFault::Finished => self.tell(rt, Happening::Finished),
+            _ if self.ending.is_set() || !is_told(count) => {}
+            _ => self.tell(rt, Happening::Failed(self.host.address, fault, count)),
         }
     }
 
@@ -135,6 +160,10 @@ impl<
         rt: &R,
         alloc: Global,
     ) -> Option<Connection<HeardTransport<'a, TcpTransport, B>, TcpCut>> {
+        if self.is_connected.swap(false, Ordering::SeqCst) {
+            // Whoever dials has read the last connection to its end.
+            self.tell(rt, Happening::Disconnected(self.host.address));
+        }
         let pause = self.back_off.begin(self.heard.count());
         if !has_paused(self.machine, pause, self.ending) {
             return None;
@@ -147,10 +176,14 @@ impl<
         match attempt {
             Ok(connection) => {
                 self.heard.note_attempt(None);
+                self.attempts.succeed();
+                self.is_connected.store(true, Ordering::SeqCst);
+                self.tell(rt, Happening::Connected(self.host.address));
                 self.noted(rt, connection)
             }
             Err(fault) => {
                 self.heard.note_attempt(Some(fault));
+                self.tell_failure(rt, fault);
                 if fault.is_final() {
                     self.ending.set();
                 }
@@ -192,7 +225,7 @@ fn side_by(
 // A new connection to an address, which doesn't wait.
 fn connected<M: Net<Stream = TcpStream>>(
     net: &M,
-    address: &SocketAddr,
+    address: &HostAddress,
 ) -> Result<TcpStream, DialFault>
     ensures { IfErr result (λ fault. fault ≡ DialFault.NotConnected) }
 {
@@ -202,8 +235,8 @@ fn connected<M: Net<Stream = TcpStream>>(
     }
 }
 
-fn connect<M: Net<Stream = TcpStream>>(net: &M, address: &SocketAddr) -> io::Result<TcpStream> {
-    let stream = TcpStream::connect_timeout(net, address, Duration::from_millis(CONNECT_MS))?;
+fn connect<M: Net<Stream = TcpStream>>(net: &M, address: &HostAddress) -> io::Result<TcpStream> {
+    let stream = address.connect(net)?;
     stream.set_nonblocking(true)?;
     Ok(stream)
 }

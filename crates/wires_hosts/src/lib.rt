@@ -10,19 +10,25 @@
 //! an attempt to connect came to is `specs/DialFault`, how long to wait before the next one `specs/BackOff`, and how
 //! long nothing was heard `specs/Silence`. A call over a connection fails only where it fails over what it is around,
 //! or where the `Barrier` refused it: then nothing was sent. Nothing is said of when a call returns. Keys are made by
-//! `wires_greeting::Key` alone.
+//! `wires_greeting::Key` alone. Whoever watches is told what happens (`happening`), through a channel for which nobody
+//! waits (`teller`): why a connection isn't let in is `specs/NotLetIn`, how many attempts came to the same
+//! `specs/Attempts`, and which connection has ended `specs/Attendance`.
 //!
 //! Begin with `heard` and `barrier`, which one process's threads share, then `host_dial` and `host_acceptor`.
 #![tactic(auto)]
 
+mod attempts;
+mod attendance;
 pub mod back_off;
 pub mod barrier;
 pub mod dial_fault;
 mod draw;
+pub mod happening;
 pub mod heard;
 pub mod heard_transport;
 mod hello;
 pub mod host_acceptor;
+pub mod host_address;
 pub mod host_dial;
 mod incoming;
 pub mod last_connection;
@@ -32,16 +38,20 @@ pub mod patience;
 mod pending_host;
 pub mod silence;
 mod source;
+pub mod teller;
 pub mod times;
 
 pub use back_off::BackOff;
 pub use barrier::{Barrier, NoBarrier, Unkept};
 pub use dial_fault::DialFault;
+pub use happening::{GivenUp, Happening, NotLetIn};
 pub use heard::Heard;
 pub use heard_transport::HeardTransport;
 pub use host_acceptor::{HostAcceptor, HostEntrance};
+pub use host_address::HostAddress;
 pub use host_dial::{FederateHost, HostDial};
 pub use last_connection::LastConnection;
 pub use listening::listen_at;
 pub use patience::Patience;
 pub use silence::Silence;
+pub use teller::{Happened, Teller, Told};

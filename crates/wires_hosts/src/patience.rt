@@ -1,4 +1,5 @@
 use crate::barrier::Barrier;
+use crate::happening::{GivenUp, Happening};
 use crate::heard::Heard;
 use crate::last_connection::LastConnection;
 use crate::silence::Silence;
@@ -42,13 +43,25 @@ impl<'a, B: Barrier> Patience<'a, B> {
             if self.ending.is_set() {
                 break;
             }
-            if self.barrier.has_failed() || self.is_too_long(silence.quiet_ms) {
+            if let Some(why) = self.reason(silence.quiet_ms) {
+                self.heard.tell(rt, rt, Happening::GaveUp(why));
                 self.heard.give_up();
                 self.ending.set();
                 break;
             }
             thread::sleep(rt, Duration::from_millis(PATIENCE_LOOK_MS));
             silence = silence.after_look(self.heard.count());
+        }
+    }
+
+    // Why the run is to be given up, where nothing was heard for this many ms, if it is.
+    fn reason(&self, quiet_ms: u64) -> Option<GivenUp> {
+        if self.barrier.has_failed() {
+            Some(GivenUp::Unkept)
+        } else if self.is_too_long(quiet_ms) {
+            Some(GivenUp::Silence)
+        } else {
+            None
         }
     }
 

@@ -2,9 +2,12 @@
 ghost use Rattle.std.specs.Prelude.{◌≡◌, ℕ, Some, IfSome, IsTrue, take};
 ghost use Rattle.wires_greeting.specs.Coordinator.{let_in, told};
 ghost use Rattle.wires_hosts.specs.Hello.{BeginsWithHello};
+ghost use Rattle.wires_hosts.specs.NotLetIn.{by_state};
 ghost use Rattle.wires_hosts.specs.Source.{challenge_by};
 
+use crate::attendance::LetInFrom;
 use crate::barrier::Barrier;
+use crate::happening::NotLetIn;
 use crate::heard::Heard;
 use crate::heard_transport::HeardTransport;
 use crate::hello::is_hello_of;
@@ -15,7 +18,7 @@ use signal::FrameReader;
 use std::alloc::Global;
 use std::io;
 use std::io::Write;
-use std::net::TcpStream;
+use std::net::{SocketAddr, TcpStream};
 use std::random::RandomSource;
 use std::time::Clock;
 use wires_greeting::{
@@ -52,6 +55,8 @@ pub(crate) struct Terms<'a, S: RandomSource> {
 #[derive(Drop)]
 pub(crate) struct PendingHost {
     stream: TcpStream,
+    /// From where it came.
+    pub address: SocketAddr,
     side: CoordinatorSide,
     next: Next,
     // Of what is to come next.
@@ -64,12 +69,14 @@ impl PendingHost {
     pub(crate) fn new<R: Clock>(
         rt: &R,
         stream: TcpStream,
+        address: SocketAddr,
         key: Key,
         files: [u8; DIGEST_SIZE],
     ) -> io::Result<PendingHost> {
         stream.set_nonblocking(true)?;
         Ok(PendingHost {
             stream,
+            address,
             side: CoordinatorSide::new(key, files),
             next: Next::Greeting,
             incoming: Incoming::new(),
@@ -97,12 +104,21 @@ impl PendingHost {
         }
     }
 
-    /// The connection, with its Hello. It is asked once that has come.
+    /// Why whoever made it isn't let in, where it is to be closed. None where its federate was told that the run is
+    /// finished.
+    pub(crate) fn not_let_in(&self) -> Option<NotLetIn>
+        ensures { result ≡ by_state self.now.side.state }
+    {
+        NotLetIn::by_state(&self.side.state())
+    }
+
+    /// The connection, with its Hello, as this federate's connection. It is asked once that has come.
     pub(crate) fn into_accepted<'a, B: Barrier>(
         self,
         alloc: Global,
         heard: &'a Heard,
         barrier: &'a B,
+        from: LetInFrom,
     ) -> Option<Accepted<HeardTransport<'a, TcpTransport, B>, TcpCut>>
         ensures { IfSome result (λ accepted. accepted.first.items ≡ take 20 self.incoming.bytes) }
     {
@@ -116,7 +132,7 @@ impl PendingHost {
         stream.set_nonblocking(false).ok()?;
         let connection = connection(alloc, stream).ok()?;
         Some(Accepted {
-            connection: HeardTransport::around(connection, heard, barrier),
+            connection: HeardTransport::around_let_in(connection, heard, barrier, Some(from)),
             first,
         })
     }

@@ -1,0 +1,14 @@
+use Rattle.std.proofs.Common.{ap, sym}
+use Rattle.std.proofs.Output.{has_written_of_eq}
+use Rattle.fedrun_watch.specs.Lines.{what_text}
+use Rattle.fedrun_watch.proofs.lines.WhatDisplay.fmt.Goals as goal
+
+pub returns-in-LetIn-clause-writes : goal.returns-in-LetIn-clause-writes
+returns-in-LetIn-clause-writes g c = λ plain done.
+    has_written_of_eq _ _ _ _ _ (sym (ap (what_text c.args.self.now.names.now) c.in-LetIn.is))
+    (c.write.ensures.writes plain done)
+
+pub returns-in-Lost-clause-writes : goal.returns-in-Lost-clause-writes
+returns-in-Lost-clause-writes g c = λ plain done.
+    has_written_of_eq _ _ _ _ _ (sym (ap (what_text c.args.self.now.names.now) c.in-Lost.is))
+    (c.write-in-Lost.ensures.writes plain done)

@@ -1,0 +1,2 @@
+-- The lines of what happens at a node.
+pub mod Lines

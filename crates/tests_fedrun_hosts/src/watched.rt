@@ -1,0 +1,167 @@
+//! What is written for whoever watches a node, and that the node does the same as without.
+use crate::nodes::{ANY, NOBODY, SECRET, watched};
+use crate::runs::{COORDINATOR, SNK, SRC, connect};
+use crate::shared_files::{Process, SharedFiles};
+use crate::spoken::Spoken;
+use crossbeam_channel::{Receiver, Sender, unbounded};
+use fedrun_watch::{asks_for_log, show};
+use std::alloc::Global;
+use std::net::{Net, TcpListener, TcpStream};
+use std::random::RandomSource;
+use std::sync::Wait;
+use std::thread;
+use tests_samples::Machine;
+use wires_hosts::{Teller, Told};
+
+// What is written of all that a node has told, which has ended.
+fn written<R: Wait>(rt: &R, alloc: Global, told: &Receiver<Told>) -> Option<String> {
+    let mut lines = Vec::new(alloc);
+    show(rt, alloc, told, &mut lines);
+    String::from_utf8(lines).ok()
+}
+
+/// A coordinator with a patience, whose run may be watched.
+const WORDS: &[&str] = &[
+    "coordinate --report c --log --listen",
+    ANY,
+    "f i --patience 10",
+];
+
+// How a coordinator ends that is watched and says all to another thread, which hears nothing more then.
+fn coordinated<R: Machine + Net<Stream = TcpStream, Listener = TcpListener> + RandomSource>(
+    rt: &R,
+    files: &SharedFiles,
+    to: Sender<Vec<u8>>,
+    teller: Teller,
+) -> Option<(u8, Vec<u8>)> {
+    let mut disk = Process::new(rt, files, None);
+    let mut logs = Process::new(rt, files, None);
+    let mut out = Spoken::new(rt, rt.alloc(), to);
+    watched(rt, WORDS, SECRET, &mut disk, &mut logs, &mut out, teller)
+}
+
+// What is written of a run in which all nodes end as they should; none where one doesn't.
+fn lines_of_run<R: Machine + Net<Stream = TcpStream, Listener = TcpListener> + RandomSource>(
+    rt: &R,
+) -> Option<String> {
+    let alloc = rt.alloc();
+    let files = SharedFiles::new(alloc);
+    let (teller, told) = Teller::watched(rt, alloc).ok()?;
+    let (to, from) = unbounded(alloc).ok()?;
+    let (end, are_right) = thread::join(
+        rt,
+        || coordinated(rt, &files, to, teller),
+        || connect(rt, &files, &COORDINATOR, ANY, &[SRC, SNK], &from),
+    );
+    let (status, err) = end?;
+    if status == 0 && err.is_empty() && are_right? {
+        written(rt, alloc, &told)
+    } else {
+        None
+    }
+}
+
+/// What is written behind the times, in three parts: of each part the lines come in any order.
+const PARTS: &[&[&str]] = &[
+    &[
+        " s: src is connected, from 127.0.0.1:",
+        " s: snk is connected, from 127.0.0.1:",
+    ],
+    &[" s: the run is finished\n"],
+    &[
+        " s: src has heard that the run is finished\n",
+        " s: snk has heard that the run is finished\n",
+    ],
+];
+
+// Whether just these lines are there, part by part.
+fn are_written(lines: &str) -> Option<bool> {
+    let mut count = 0_usize;
+    let mut before = 0;
+    for part in PARTS {
+        let mut last = before;
+        for line in *part {
+            let place = lines.find(*line)?;
+            if place < before {
+                return Some(false);
+            }
+            last = last.max(place);
+            count = count.saturating_add(1);
+        }
+        before = last;
+    }
+    Some(lines.bytes().filter(|byte| *byte == b'\n').count() == count)
+}
+
+#[test]
+fn a_run_is_watched_line_by_line(rt: HostRuntime) {
+    let lines = lines_of_run(&rt);
+    assert_eq!(rt;
+        lines.as_ref().and_then(|lines| are_written(lines.as_str())),
+        Some(true)
+    );
+}
+
+// What is written of a federate with these words more that nobody answers, and that gives up after a second.
+fn lines_alone<R: Machine + Net<Stream = TcpStream, Listener = TcpListener> + RandomSource>(
+    rt: &R,
+    more: &str,
+) -> Option<String> {
+    let alloc = rt.alloc();
+    let files = SharedFiles::new(alloc);
+    let (teller, told) = Teller::watched(rt, alloc).ok()?;
+    let mut disk = Process::new(rt, &files, None);
+    let mut logs = Process::new(rt, &files, None);
+    let mut out = Vec::new(alloc);
+    let words = [
+        "join --report r --log --patience 1 --connect",
+        NOBODY,
+        "f i src",
+        more,
+    ];
+    let (status, err) = watched(rt, &words, SECRET, &mut disk, &mut logs, &mut out, teller)?;
+    if status == 3 && err.as_slice() == "fedrun: not finished\n".as_bytes() {
+        written(rt, alloc, &told)
+    } else {
+        None
+    }
+}
+
+// Whether it is told of the first attempt at once, and last that it gives up.
+fn is_given_up<R: Machine + Net<Stream = TcpStream, Listener = TcpListener> + RandomSource>(
+    rt: &R,
+    more: &str,
+) -> Option<bool> {
+    let lines = lines_alone(rt, more)?;
+    let first = lines.as_str().lines().next()?;
+    Some(
+        first.ends_with(" s: no connection to 127.0.0.1:1: nobody answers")
+            && lines
+                .as_str()
+                .ends_with(" s: it gives up: nobody was heard for its patience\n"),
+    )
+}
+
+#[test]
+fn a_federate_is_watched_with_a_log_and_without(rt: HostRuntime) {
+    let given_up = [is_given_up(&rt, ""), is_given_up(&rt, "--sync no")];
+    assert_eq!(rt; given_up, [Some(true); 2]);
+}
+
+// Whether lines are asked for by this word, behind another one.
+fn are_asked_for(alloc: Global, word: &str) -> Option<bool> {
+    let mut words = Vec::new(alloc);
+    words.push(String::from_str(alloc, "join").ok()?).ok()?;
+    words.push(String::from_str(alloc, word).ok()?).ok()?;
+    Some(asks_for_log(words.as_slice()))
+}
+
+#[test]
+fn lines_are_asked_for(rt: HostRuntime) {
+    let asked = [
+        are_asked_for(rt.alloc(), "--log"),
+        are_asked_for(rt.alloc(), "--logs"),
+        are_asked_for(rt.alloc(), "log"),
+    ];
+    assert_eq!(rt; asked, [Some(true), Some(false), Some(false)]);
+}

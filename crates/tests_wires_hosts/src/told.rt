@@ -1,0 +1,274 @@
+//! What whoever watches a node is told, in which order, and that nobody waits for him.
+use crate::entrance::{
+    Entrance, FILES, HELLO, Host, LONG_MS, Machine, challenged, host_of, is_ended, next, said,
+    told_behind, visited,
+};
+use crate::finishing::all_hear;
+use crate::process::{Process, is_told, next_told};
+use crossbeam_channel::TryRecvError;
+use std::alloc::Global;
+use std::io::Write;
+use std::net::{Net, SocketAddr, TcpListener, TcpStream};
+use std::time::Duration;
+use wires::Work;
+use wires_greeting::Greeting;
+use wires_hosts::teller::MOST_WAITING;
+use wires_hosts::{GivenUp, Happening, HostAddress, HostDial, NotLetIn, Teller};
+use wires_transports::Dial;
+
+// A connection that federate 0 makes by hand and on which it is let in, and its address.
+fn let_in_by_hand<R: Net<Stream = TcpStream, Listener = TcpListener>>(
+    rt: &R,
+    entrance: &Entrance<'_>,
+) -> Option<(TcpStream, SocketAddr)> {
+    let (stream, _) = said(rt, entrance.address, 0, &HELLO)?;
+    let address = stream.local_addr().ok()?;
+    Some((stream, address))
+}
+
+// Federate 0 is let in; another connection of it takes the place of the first, which is read to its end behind that;
+// the second ends, and a third comes. Whether each is told once, in this order.
+fn are_comings_told<R: Host + Net<Stream = TcpStream, Listener = TcpListener>>(
+    rt: &R,
+    entrance: &Entrance<'_>,
+) -> Option<bool> {
+    let told = &entrance.coordinator.told;
+    let (_first_stream, first) = let_in_by_hand(rt, entrance)?;
+    let mut first_came = next(rt, entrance, 0)?;
+    let (second_stream, second) = let_in_by_hand(rt, entrance)?;
+    let mut second_came = next(rt, entrance, 0)?;
+    let is_first_ended = is_ended(rt, &mut first_came.connection.incoming);
+    drop(second_stream);
+    let is_second_ended = is_ended(rt, &mut second_came.connection.incoming);
+    let are_told = is_told(rt, told, Happening::LetIn(0, first))
+        && is_told(rt, told, Happening::Lost(0, first))
+        && is_told(rt, told, Happening::LetIn(0, second))
+        && is_told(rt, told, Happening::Lost(0, second));
+    // That the second has ended was told before another one comes.
+    let (_third_stream, third) = let_in_by_hand(rt, entrance)?;
+    let is_third = is_told(rt, told, Happening::LetIn(0, third));
+    Some(is_first_ended && is_second_ended && are_told && is_third)
+}
+
+#[test]
+fn tells_who_comes_and_whose_connection_has_ended(rt: HostRuntime) {
+    assert_eq!(rt; visited(&rt, &rt, are_comings_told), Some(true));
+}
+
+/// Whoever isn't let in, and ends the connection behind what is said.
+#[derive(Clone, Copy)]
+enum Stranger {
+    Silent,
+    Noise,
+    /// With files whose digest is all this byte, as this federate.
+    Greets(u8, u16),
+    /// Says this behind the challenge.
+    Unproved(&'static [u8]),
+    /// Proves the secret, and says this.
+    Unheard(&'static [u8]),
+}
+
+/// Why each isn't let in, and how many in a row weren't for that.
+const STRANGERS: &[(Stranger, NotLetIn, u64)] = &[
+    (Stranger::Silent, NotLetIn::NoGreeting, 1),
+    (Stranger::Noise, NotLetIn::OtherProtocol, 1),
+    (Stranger::Greets(8, 0), NotLetIn::OtherFiles, 1),
+    (Stranger::Greets(FILES[0], 3), NotLetIn::NoSuchFederate, 1),
+    (Stranger::Unproved(&[]), NotLetIn::NoProof, 1),
+    (Stranger::Unproved(&[0; 31]), NotLetIn::NoProof, 2),
+    (Stranger::Unproved(&[0; 32]), NotLetIn::NotProved, 1),
+    (Stranger::Unheard(&[]), NotLetIn::NoHello, 1),
+    (Stranger::Unheard(&[0; 20]), NotLetIn::NoHello, 2),
+];
+
+// What it says; the address of its connection, which has ended then.
+fn heard_of<R: Net<Stream = TcpStream, Listener = TcpListener>>(
+    rt: &R,
+    address: SocketAddr,
+    stranger: Stranger,
+) -> Option<SocketAddr> {
+    match stranger {
+        Stranger::Silent => said_on(TcpStream::connect(rt, address).ok()?, &[]),
+        Stranger::Noise => said_on(TcpStream::connect(rt, address).ok()?, &[0; 74]),
+        Stranger::Greets(file, federate) => {
+            let greeting = Greeting {
+                federate,
+                files: [file; 32],
+                random: [8; 32],
+            };
+            said_on(TcpStream::connect(rt, address).ok()?, &greeting.bytes())
+        }
+        Stranger::Unproved(bytes) => {
+            let (stream, _) = challenged(rt, address, 0)?;
+            said_on(stream, bytes)
+        }
+        Stranger::Unheard(bytes) => {
+            let (stream, _) = said(rt, address, 0, bytes)?;
+            stream.local_addr().ok()
+        }
+    }
+}
+
+// The address of a connection on which this was said.
+fn said_on(stream: TcpStream, bytes: &[u8]) -> Option<SocketAddr> {
+    let mut stream = stream;
+    stream.write_all(bytes).ok()?;
+    stream.local_addr().ok()
+}
+
+// Whether it is told of each of the strangers why it isn't let in, and from where it came.
+fn are_strangers_told<R: Host + Net<Stream = TcpStream, Listener = TcpListener>>(
+    rt: &R,
+    entrance: &Entrance<'_>,
+) -> Option<bool> {
+    for (stranger, why, count) in STRANGERS {
+        let from = heard_of(rt, entrance.address, *stranger)?;
+        if !is_told(
+            rt,
+            &entrance.coordinator.told,
+            Happening::Closed(from, *why, *count),
+        ) {
+            return Some(false);
+        }
+    }
+    Some(true)
+}
+
+#[test]
+fn tells_who_isnt_let_in_and_why(rt: HostRuntime) {
+    assert_eq!(rt; visited(&rt, &rt, are_strangers_told), Some(true));
+}
+
+// Whether of five who say nothing it is told of the first, the second and the fourth; then the federate comes, and of
+// one more it is told again.
+fn are_few_told<R: Host + Net<Stream = TcpStream, Listener = TcpListener>>(
+    rt: &R,
+    entrance: &Entrance<'_>,
+) -> Option<bool> {
+    let told = &entrance.coordinator.told;
+    for count in [Some(1), Some(2), None, Some(4), None] {
+        let from = heard_of(rt, entrance.address, Stranger::Silent)?;
+        if let Some(count) = count {
+            if !is_told(
+                rt,
+                told,
+                Happening::Closed(from, NotLetIn::NoGreeting, count),
+            ) {
+                return Some(false);
+            }
+        }
+    }
+    let (_stream, address) = let_in_by_hand(rt, entrance)?;
+    let is_let_in = is_told(rt, told, Happening::LetIn(0, address));
+    let from = heard_of(rt, entrance.address, Stranger::Silent)?;
+    Some(is_let_in && is_told(rt, told, Happening::Closed(from, NotLetIn::NoGreeting, 1)))
+}
+
+#[test]
+fn tells_ever_fewer_of_those_who_arent_let_in(rt: HostRuntime) {
+    assert_eq!(rt; visited(&rt, &rt, are_few_told), Some(true));
+}
+
+// A federate connects, and connects anew where its connection has ended; then it hears that the run is finished. Whether
+// it is told so.
+fn is_own_life_told<R: Host + Net<Stream = TcpStream, Listener = TcpListener>>(
+    rt: &R,
+    entrance: &Entrance<'_>,
+) -> Option<bool> {
+    let process = entrance.process;
+    let at = entrance.address;
+    let dial = HostDial::new(
+        rt,
+        host_of(at, 0)?,
+        &process.heard,
+        &process.barrier,
+        &process.last,
+        &process.ending,
+    );
+    let is_connected = dial.dial(rt, entrance.alloc).is_some();
+    let is_connected_again = dial.dial(rt, entrance.alloc).is_some();
+    entrance.coordinator.ending.set();
+    let is_in_vain = dial.dial(rt, entrance.alloc).is_none();
+    let are_told = is_told(rt, &process.told, Happening::Connected(HostAddress::At(at)))
+        && is_told(
+            rt,
+            &process.told,
+            Happening::Disconnected(HostAddress::At(at)),
+        )
+        && is_told(rt, &process.told, Happening::Connected(HostAddress::At(at)))
+        && is_told(
+            rt,
+            &process.told,
+            Happening::Disconnected(HostAddress::At(at)),
+        )
+        && is_told(rt, &process.told, Happening::Finished);
+    Some(is_connected && is_connected_again && is_in_vain && are_told && all_hear(rt, entrance)?)
+}
+
+#[test]
+fn tells_what_happens_to_a_federate(rt: HostRuntime) {
+    assert_eq!(rt;
+        told_behind(&rt, LONG_MS, is_own_life_told),
+        Some([true; 4])
+    );
+}
+
+// How much was left out, as it is told with what has room: of the first and the last that have, where nobody takes any
+// until there is no room, and then one is taken. None where it isn't as many as there is room for.
+fn left_out<R: Host>(rt: &R, alloc: Global) -> Option<[u64; 2]> {
+    let (teller, told) = Teller::watched(rt, alloc).ok()?;
+    for _ in 0..MOST_WAITING + 3 {
+        teller.tell(rt, rt, Happening::Finished);
+    }
+    let first = next_told(rt, &told)?;
+    teller.tell(rt, rt, Happening::GaveUp(GivenUp::Silence));
+    for _ in 1..MOST_WAITING {
+        if !is_told(rt, &told, Happening::Finished) {
+            return None;
+        }
+    }
+    let last = next_told(rt, &told)?;
+    if last.what == Happening::GaveUp(GivenUp::Silence) && told.try_recv(rt).is_err() {
+        Some([first.left_out, last.left_out])
+    } else {
+        None
+    }
+}
+
+// Whoever tells waits for nobody: else this wouldn't end.
+#[test]
+fn waits_for_nobody_and_counts_what_is_left_out(rt: HostRuntime) {
+    assert_eq!(rt; left_out(&rt, rt.alloc()), Some([0, 3]));
+}
+
+// Whether more may be told while one of those is there who could, nothing once all are gone, and none is watched that
+// was made of one that isn't.
+fn are_over<R: Host>(rt: &R, alloc: Global) -> Option<[bool; 3]> {
+    let (teller, told) = Teller::watched(rt, alloc).ok()?;
+    let other = teller.another();
+    drop(teller);
+    let is_open = matches!(told.try_recv(rt), Err(TryRecvError::Empty));
+    drop(other);
+    let is_over = matches!(told.try_recv(rt), Err(TryRecvError::Disconnected));
+    Some([is_open, is_over, !Teller::silent().another().is_watched()])
+}
+
+#[test]
+fn nothing_more_is_told_once_the_node_has_ended(rt: HostRuntime) {
+    assert_eq!(rt; are_over(&rt, rt.alloc()), Some([true; 3]));
+}
+
+// Whether it is told of a run in which nobody is heard for its patience that it is given up.
+fn is_giving_up_told<R: Machine>(rt: &R) -> Option<bool> {
+    let alloc = rt.alloc();
+    let process = Process::new(alloc)?;
+    let _ = process
+        .patience(Some(Duration::from_millis(100)))
+        .work(rt, alloc);
+    Some(is_told(rt, &process.told, Happening::GaveUp(GivenUp::Silence)))
+}
+
+#[test]
+fn tells_that_a_run_is_given_up(rt: HostRuntime) {
+    assert_eq!(rt; is_giving_up_told(&rt), Some(true));
+}
