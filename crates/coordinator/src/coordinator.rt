@@ -1,6 +1,6 @@
-ghost use Rattle.std.specs.Prelude.{◌≡◌, ℕ, IfOk};
+ghost use Rattle.std.specs.Prelude.{◌≡◌, ◌<◌, ℕ, IfOk, length};
 ghost use Rattle.protocol.specs.FederateRecord.{initial_federate_record};
-ghost use Rattle.protocol.specs.FederateRecords.{federate_records_listed};
+ghost use Rattle.protocol.specs.FederateRecords.{federate_record_at, federate_records_listed};
 ghost use Rattle.signal.specs.Signal.{IsSignal};
 ghost use Rattle.plan.specs.Federation.{federate_count};
 
@@ -12,6 +12,7 @@ use plan::Plan;
 use signal::Signal;
 use std::alloc::Global;
 use std::marker::Model;
+use tag::FiniteTag;
 
 /// The coordinator of a federation. Its peers are the federates, by number; contracts see the plan's draft and, by
 /// number, what it knows of each federate.
@@ -52,6 +53,34 @@ impl<'a> Coordinator<'a> {
             plan,
             state: State { table, posts },
         })
+    }
+
+    /// The tag of a federate's last LTC, if one came. It is asked of a federate that is there; of others none is known.
+    pub fn completed(&self, federate: usize) -> Option<FiniteTag>
+        ensures { federate < length self.now.federate_records
+            → result ≡ (federate_record_at self.now.federate_records federate).completed }
+    {
+        // For the prover: a record for each federate.
+        self.state.table.invariant();
+        if federate < self.state.table.federates() {
+            self.state.table.completed(federate)
+        } else {
+            None
+        }
+    }
+
+    /// The last TAG to a federate, if there was one. It is asked of a federate that is there; of others none is known.
+    pub fn granted(&self, federate: usize) -> Option<FiniteTag>
+        ensures { federate < length self.now.federate_records
+            → result ≡ (federate_record_at self.now.federate_records federate).granted }
+    {
+        // For the prover: a record for each federate.
+        self.state.table.invariant();
+        if federate < self.state.table.federates() {
+            self.state.table.granted(federate)
+        } else {
+            None
+        }
     }
 }
 

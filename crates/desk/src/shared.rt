@@ -22,7 +22,8 @@ use std::sync::{Mutex, MutexGuard, Wait};
 ///
 /// A contract can't name what lies under a lock. That `handle` answers as the desk does, and that its slip has the
 /// event's place in the journal, is said by `enter`, which is passed the locked desk; what `unacked` answers, by the
-/// function of that name, and so what `is_closed` answers. That `finished` answers as the node does isn't said.
+/// function of that name, and so what `is_closed` answers. That `finished` answers as the node does, and which node
+/// `node` lends, isn't said.
 #[derive(Drop)]
 pub struct Shared<N: Node> {
     desk: Mutex<Desk<N>>,
@@ -158,6 +159,11 @@ impl<'a, N: Node> DeskGuard<'a, N> {
     /// How many signals a peer hasn't acknowledged, or None where there is no such peer.
     pub fn unacked(&self, peer: usize) -> Option<usize> {
         unacked(&self.desk, peer)
+    }
+
+    /// The node, as it stands while the lock is held.
+    pub fn node(&self) -> &N {
+        self.desk.station().node()
     }
 
     /// Gives the lock up.

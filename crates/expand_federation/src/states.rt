@@ -21,7 +21,7 @@ pub(crate) fn states_place(group: Group<'_>, before: usize) -> StatesPlace {
     for (place, item) in group.items.iter().enumerate() {
         if place == 0 {
             behind_header = at.saturating_add(item.len());
-        } else if item.header() == Some(b"federate.state".as_slice()) {
+        } else if item.is_header(b"federate.state") {
             return StatesPlace::Tables(item.line());
         } else if item.key() == Some(b"state".as_slice()) {
             return place_in_list(*item, at);

@@ -126,7 +126,7 @@ impl<'a> Group<'a> {
         let mut is_below = false;
         for item in self.items {
             match item.header() {
-                Some(other) => is_below = other == header,
+                Some(_) => is_below = item.is_header(header),
                 None if is_below && item.key() == Some(key.as_bytes()) => return Some(*item),
                 None => {}
             }

@@ -1,5 +1,5 @@
 //! Items: what stands on a line of TOML by itself, with as many lines as it has. A header, a key with its value, a
-//! comment, or an empty line.
+//! comment, or an empty line. The mark of a byte order is one too, as it is no part of the first line.
 
 use crate::token::{Token, TokenKind};
 use std::alloc::{AllocError, Global};
@@ -18,7 +18,7 @@ pub fn items<'a>(alloc: Global, tokens: &'a [Token<'a>]) -> Result<Vec<Item<'a>>
     for (place, token) in tokens.iter().enumerate() {
         depth = depth_behind(depth, token.kind);
         // A line that ends within brackets goes on.
-        if depth == 0 && token.kind == TokenKind::LineEnd {
+        if depth == 0 && (token.kind == TokenKind::LineEnd || token.is_mark()) {
             let to = place.saturating_add(1);
             push(&mut items, tokens, from, to)?;
             from = to;
@@ -86,6 +86,14 @@ impl<'a> Item<'a> {
         Some(inside.text.trim_ascii())
     }
 
+    /// Whether it is the header of this table, with spaces around its dot or without.
+    pub fn is_header(self, table: &[u8]) -> bool {
+        match self.header() {
+            Some(header) => is_same_name(header, table),
+            None => false,
+        }
+    }
+
     /// The key of a value, in quotes or without.
     pub fn key(self) -> Option<&'a [u8]> {
         match self.without_space() {
@@ -117,6 +125,11 @@ impl<'a> Item<'a> {
             tokens => tokens,
         }
     }
+}
+
+// Whether a header names this table.
+fn is_same_name(header: &[u8], table: &[u8]) -> bool {
+    header.iter().filter(|c| !c.is_ascii_whitespace()).eq(table)
 }
 
 fn is_open(token: &Token<'_>) -> bool {

@@ -67,9 +67,9 @@ pub(crate) fn class_template<'a>(
         match item.header() {
             // The header of the class is that of each federate.
             Some(_) if place == 0 => continue,
-            Some(header) => {
+            Some(_) => {
                 is_own = false;
-                is_parameter = header == b"class.parameter".as_slice();
+                is_parameter = item.is_header(b"class.parameter");
                 if !is_parameter {
                     push_header(&mut template, *item)?;
                 }

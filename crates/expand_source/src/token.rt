@@ -3,6 +3,9 @@ ghost use Rattle.std.specs.Prelude.{◌≤◌, length};
 
 use std::alloc::{AllocError, Global};
 
+/// The mark of a byte order in UTF-8, with which a text may begin. It is a token by itself.
+const MARK: &[u8] = &[0xEF, 0xBB, 0xBF];
+
 /// What a token is.
 #[derive(Clone, Copy, Debug, PartialEq, Eq)]
 pub enum TokenKind {
@@ -25,6 +28,13 @@ pub struct Token<'a> {
     pub kind: TokenKind,
     pub line: usize,
     pub text: &'a [u8],
+}
+
+impl Token<'_> {
+    /// Whether it is the mark of a byte order.
+    pub fn is_mark(self) -> bool {
+        self.text == MARK
+    }
 }
 
 /// All tokens of a text.
@@ -75,6 +85,9 @@ fn line_len(text: &[u8]) -> usize {
 }
 
 fn plain_len(text: &[u8]) -> usize {
+    if text.starts_with(MARK) {
+        return MARK.len();
+    }
     text.iter()
         .take_while(|c| !matches!(**c, b'"' | b'\'' | b'#' | b'\n' | b'[' | b'{' | b']' | b'}'))
         .count()

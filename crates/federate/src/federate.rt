@@ -132,6 +132,20 @@ impl<'a> Federate<'a> {
         self.rows
     }
 
+    /// The last tag that it ran, if it ran one.
+    pub fn completed(&self) -> Option<FiniteTag>
+        ensures { result ≡ self.now.federate.completed }
+    {
+        self.completed
+    }
+
+    /// Up to which tag it may run, if that was granted.
+    pub fn granted(&self) -> Option<FiniteTag>
+        ensures { result ≡ self.now.federate.granted }
+    {
+        self.granted
+    }
+
     /// Whether `announce` would do nothing: what comes next was announced, and nothing was run since.
     pub fn has_announced(&self) -> bool
         ensures { IsTrue result ↔ (announces self.now ≡ Nothing) }

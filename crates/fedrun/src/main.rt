@@ -10,21 +10,22 @@ mod version;
 
 use crate::version::{COMMIT, PROOF};
 use arrayvec::ArrayVec;
-use crossbeam_channel::Receiver;
+use crossbeam_channel::{Receiver, Sender};
 use fedrun_commands::{CommandAnswer, NodeFault, answer};
 use fedrun_expand::{asks_for_each, asks_for_expand, expand_command, expand_each_command};
 use fedrun_files::{Files, MachineFiles};
 use fedrun_help::{asks_for_hints, print_version, words_hint};
-use fedrun_hints::{NotedFiles, print_hint, print_node_hint};
-use fedrun_hosts::{NodeAnswer, asks_for_node, node_answer};
+use fedrun_hints::{NotedFiles, print_hint, print_node_hint, print_stats_hint};
+use fedrun_hosts::{NodeAnswer, asks_for_node, node_answer, read_node_words};
 use fedrun_lint_source::{asks_for_source_lint, lint_source_command};
 use fedrun_logs::{LogDisk, MachineLogs};
 use fedrun_progress::{NoProgress, Progress, ProgressLine, asks_for_progress};
-use fedrun_watch::{asks_for_log, show};
+use fedrun_stats::{NodeMeasures, RunMeasures, StatsFault, begin_stats, drop_stats, end_stats};
+use fedrun_watch::{View, show, view_asked};
 use fedrun_whole::given;
-use fedrun_words::{Fault, asks_for_version, print_text, refuse};
+use fedrun_words::{Fault, asks_for_version, print_text, read_words, refuse, stats_file};
 use files_keeping::Device;
-use files_saving::{Disk, MachineDisk};
+use files_saving::{Disk, MachineDisk, SaveFault};
 use std::alloc::Global;
 use std::fs::OpenOptions;
 use std::io::{ErrorKind, IsTerminal, Write};
@@ -35,7 +36,7 @@ use std::sync::Wait;
 use std::thread::Threads;
 use std::time::Clock;
 use std::{fs, rt, thread};
-use wires_hosts::{Teller, Told};
+use wires_hosts::{Measured, Teller, Told};
 
 /// The exit status where words are no command.
 const USAGE: u8 = 2;
@@ -53,14 +54,16 @@ fn main(rt: HostRuntime) -> ExitCode {
             let (words, said) = asks_for_hints(words.as_slice());
             let hints = said.unwrap_or(err.is_terminal());
             let mut files = NotedFiles::new(rt.alloc(), MachineFiles::new(&rt, rt.stdin()), hints);
+            let mut saved = MachineDisk::new(&rt);
             let status = if asks_for_version(words) {
                 say_version(&mut out, &mut err)
             } else if asks_for_node(words) {
                 let mut disk = MachineDisk::new(&rt);
                 let mut logs = MachineLogs::new(&rt);
                 let mut shown = rt.stderr();
-                run_node(
-                    &rt, words, &mut files, &mut disk, &mut logs, &mut out, &mut err, &mut shown,
+                measure_node(
+                    &rt, words, &mut files, &mut disk, &mut logs, &mut saved, &mut out, &mut err,
+                    &mut shown,
                 )
             } else if asks_for_expand(words) || asks_for_source_lint(words) {
                 run_source(&rt, words, &mut files, &mut out, &mut err)
@@ -70,11 +73,21 @@ fn main(rt: HostRuntime) -> ExitCode {
                 let (_, status) = thread::join(
                     &rt,
                     || line.show(rt.alloc(), &mut shown),
-                    || run_command(&rt, words, &mut files, &mut out, &mut err, &line),
+                    || measure_command(
+                        &rt, words, &mut files, &mut saved, &mut out, &mut err, &line,
+                    ),
                 );
                 status
             } else {
-                run_command(&rt, words, &mut files, &mut out, &mut err, &NoProgress)
+                measure_command(
+                    &rt,
+                    words,
+                    &mut files,
+                    &mut saved,
+                    &mut out,
+                    &mut err,
+                    &NoProgress,
+                )
             };
             if hints && status == USAGE {
                 hint(rt.alloc(), words, &mut err);
@@ -105,18 +118,73 @@ fn say_version<O: Write, E: Write>(out: &mut O, err: &mut E) -> u8 {
     refuse(&fault, err).status
 }
 
-// Who tells what happens at a node, with the end where that is taken. None where the words don't ask for it, or there
-// is no memory: then nobody watches.
-fn watched<C: Clock>(
-    clock: &C,
-    alloc: Global,
-    words: &[String],
-) -> Option<(Teller, Receiver<Told>)> {
-    if asks_for_log(words) {
-        Teller::watched(clock, alloc).ok()
-    } else {
-        None
+// Who tells what is in view of a node, with the end where that is taken. None where nothing is, or there is no memory:
+// then nobody watches.
+fn watched<C: Clock>(clock: &C, alloc: Global, view: View) -> Option<(Teller, Receiver<Told>)> {
+    if view.is_empty() {
+        return None;
     }
+    let (teller, told) = Teller::watched(clock, alloc).ok()?;
+    if view.rows {
+        Some((teller.with_looks(), told))
+    } else {
+        Some((teller, told))
+    }
+}
+
+// Runs a command, and saves what is measured of it, where the words ask for that.
+fn measure_command<
+    R: AllocGlobal
+        + Threads
+        + Wait
+        + Clock
+        + Net<Stream = TcpStream, Listener = TcpListener>
+        + Sync,
+    F: Files + Drop,
+    D: Disk,
+    O: Write,
+    E: Write,
+    P: Progress + Sync,
+>(
+    rt: &R,
+    words: &[String],
+    files: &mut NotedFiles<F>,
+    saved: &mut D,
+    out: &mut O,
+    err: &mut E,
+    progress: &P,
+) -> u8 {
+    let name = match stats_file(rt.alloc(), words) {
+        Some(name) if read_words(rt.alloc(), words).is_ok() => name,
+        _ => return run_command(rt, words, files, out, err, progress),
+    };
+    if let Err(fault) = begin_stats(rt.alloc(), name, files, saved) {
+        progress.end();
+        return refuse_stats(fault, files, err);
+    }
+    let measures = RunMeasures::new(rt, progress);
+    let status = run_command(rt, words, files, out, err, &measures);
+    end_stats(
+        rt.alloc(),
+        name,
+        measures.stats(status),
+        status,
+        files,
+        saved,
+        err,
+    )
+}
+
+// Says that nothing is begun, since what is measured couldn't be saved, and what to do.
+fn refuse_stats<F: Files + Drop, E: Write>(
+    fault: StatsFault<'_>,
+    files: &NotedFiles<F>,
+    err: &mut E,
+) -> u8 {
+    let why = fault.why;
+    let status = refuse(&Fault::More(fault), err).status;
+    print_stats_hint(why, files, err);
+    status
 }
 
 // `answer` over a machine whose connections are TCP's, as the prover wants their types named where a machine is handed
@@ -151,7 +219,65 @@ fn run_command<
     status
 }
 
-// `node_answer`, likewise; with `--log` what happens is shown meanwhile.
+// Runs a node, and saves what is measured of it, where the words ask for that.
+fn measure_node<
+    R: AllocGlobal
+        + Threads
+        + Wait
+        + Clock
+        + Net<Stream = TcpStream, Listener = TcpListener>
+        + RandomSource
+        + Sync,
+    F: Files + Drop,
+    D: Disk,
+    L: LogDisk<V>,
+    V: Device + Drop + Send,
+    K: Disk,
+    O: Write,
+    E: Write,
+    S: Write + Send,
+>(
+    rt: &R,
+    words: &[String],
+    files: &mut NotedFiles<F>,
+    disk: &mut D,
+    logs: &mut L,
+    saved: &mut K,
+    out: &mut O,
+    err: &mut E,
+    shown: &mut S,
+) -> u8 {
+    let name = match stats_file(rt.alloc(), words) {
+        Some(name) if read_node_words(rt.alloc(), words).is_ok() => name,
+        _ => return run_node(rt, words, files, disk, logs, out, err, shown, None),
+    };
+    if let Err(fault) = begin_stats(rt.alloc(), name, files, saved) {
+        return refuse_stats(fault, files, err);
+    }
+    match NodeMeasures::new(rt, rt.alloc()) {
+        Ok((measures, to)) => {
+            let status = run_node(rt, words, files, disk, logs, out, err, shown, Some(to));
+            let stats = measures.stats(rt, status);
+            end_stats(rt.alloc(), name, stats, status, files, saved, err)
+        }
+        Err(_) => {
+            drop_stats(rt.alloc(), name, saved);
+            let why = SaveFault::CannotWrite;
+            refuse(&Fault::More(StatsFault { name, why }), err).status
+        }
+    }
+}
+
+// Who tells what happens, and over this channel what is measured, if that is asked for.
+fn with_measures<C: Clock>(clock: &C, teller: Teller, to: Option<Sender<Measured>>) -> Teller {
+    match to {
+        Some(to) => teller.measured(clock, to),
+        None => teller,
+    }
+}
+
+// `node_answer`, likewise; with `--log` what happens is shown meanwhile, and with `--progress` where federates stand.
+// What is measured is told over the channel.
 fn run_node<
     R: AllocGlobal
         + Threads
@@ -176,14 +302,17 @@ fn run_node<
     out: &mut O,
     err: &mut E,
     shown: &mut S,
+    to: Option<Sender<Measured>>,
 ) -> u8 {
-    let answer = match watched(rt, rt.alloc(), words) {
+    let view = view_asked(words);
+    let answer = match watched(rt, rt.alloc(), view) {
         Some((teller, told)) => {
+            let teller = with_measures(rt, teller, to);
             // A fault comes last, behind all lines.
             let mut line: ArrayVec<u8, MOST_FAULT> = ArrayVec::new();
             let (_, answer) = thread::join(
                 rt,
-                || show(rt, rt.alloc(), &told, shown),
+                || show(rt, rt.alloc(), &told, view, shown),
                 || {
                     // Once it is gone all is shown.
                     let teller = teller;
@@ -193,7 +322,10 @@ fn run_node<
             let _is_told = err.write_all(line.as_slice());
             answer
         }
-        None => node_answer(rt, words, files, disk, logs, out, err, &Teller::silent()),
+        None => {
+            let teller = with_measures(rt, Teller::silent(), to);
+            node_answer(rt, words, files, disk, logs, out, err, &teller)
+        }
     };
     let NodeAnswer { status, fault } = answer;
     if let Some(fault) = fault {

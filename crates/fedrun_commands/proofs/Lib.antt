@@ -9,5 +9,7 @@ pub mod Kept
 pub mod SentOn
 -- where nothing was printed, or what is wrong
 pub mod Reported
+-- files that are looked at, one after the other
+pub mod LookedAt
 -- report files, one after the other
 pub mod TakenInTurn

@@ -9,6 +9,8 @@ pub mod Schedules
 pub mod Played
 -- what is printed of files that are looked at
 pub mod Linted
+-- a schedule among these
+pub mod ReadSchedules
 -- what is printed of report files that an audit proves
 pub mod ReportFiles
 -- what is printed where all went well

@@ -64,8 +64,7 @@ PrintsFor contents (DrawFederation asked) before after = PrintsPicture (contents
 PrintsFor contents (RunOf asked) before after = PrintsRun (as_rows asked) contents before after
 PrintsFor contents (Record asked) before after = PrintsRun (as_steps asked) contents before after
 PrintsFor contents (Audit asked) before after = PrintsReportFiles contents asked before after
-PrintsFor contents (Lint asked) before after =
-    PrintsLint contents asked.federation.now asked.inputs.now false before after
+PrintsFor contents (Lint asked) before after = PrintsLint contents asked false before after
 PrintsFor contents (About asked) before after = PrintsAbout asked before after
 
 -- what some request asks for was printed

@@ -130,8 +130,7 @@ IsFaultOf contents answered before after (Record asked) fault =
     IsFaultOfRun (as_steps asked) contents answered before after fault
 IsFaultOf contents answered before after (Audit asked) fault =
     IsFaultOfReports contents answered before after asked fault
-IsFaultOf contents answered before after (Lint asked) fault =
-    IsLintFault contents answered before after asked.federation asked.inputs fault
+IsFaultOf contents answered before after (Lint asked) fault = IsLintFault contents answered before after asked fault
 IsFaultOf contents answered before after (About asked) fault =
     answered [] × IsAboutFault asked before after fault
 

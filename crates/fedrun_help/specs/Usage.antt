@@ -13,11 +13,15 @@ argument_text a = if a.is_repeated then a.name.now ++ codes ".." else a.name.now
 abbrev pub spaced_argument : ArgumentWords → List ℕ
 spaced_argument a = codes " " ++ argument_text a
 
--- the arguments that may stand after the others, all of them or none
+-- an argument behind others that may follow, in brackets where it may be left out by itself
+abbrev pub further_argument : ArgumentWords → List ℕ
+further_argument a = if a.is_separate then codes " [" ++ (argument_text a ++ codes "]") else spaced_argument a
+
+-- the arguments that may stand after the others: none of them, or all but those that may be left out by themselves
 abbrev pub may_follow_text : List ArgumentWords → List ℕ
 may_follow_text [] = []
 may_follow_text (first ∷ rest) =
-    codes " [" ++ (argument_text first ++ (flat_map spaced_argument rest ++ codes "]"))
+    codes " [" ++ (argument_text first ++ (flat_map further_argument rest ++ codes "]"))
 
 -- an option of this name, with what its value is called
 abbrev pub named_option : List ℕ → Option (Bor (List ℕ)) → List ℕ

@@ -11,6 +11,7 @@ mod help;
 pub mod hints;
 mod manual;
 pub mod printing;
+pub mod unparsed;
 mod usage;
 
 pub use hints::{WordsHint, asks_for_hints, words_hint};

@@ -95,9 +95,49 @@ impl fmt::Display for MayFollow<'_> {
             [] => write!(f, ""),
             [first, rest @ ..] => {
                 let first = Argument(first);
-                let rest = Arguments(rest);
+                let rest = FurtherArguments(rest);
                 write!(f, " [{first}{rest}]")
             }
+        }
+    }
+}
+
+// Arguments behind one that may follow.
+#[derive(Drop)]
+struct FurtherArguments<'a>(&'a [ArgumentWords]);
+
+impl fmt::Display for FurtherArguments<'_> {
+    ghost use Rattle.std.specs.Prelude.{Some, flat_map};
+    ghost use Rattle.fedrun_help.specs.Usage.{further_argument};
+
+    ghost output = { λ arguments. Some (flat_map further_argument arguments.0.now) };
+
+    fn fmt<W: fmt::Write>(&self, f: &mut fmt::Formatter<W>) -> fmt::Result {
+        let arguments = self.0;
+        for argument in arguments {
+            let argument = FurtherArgument(argument);
+            write!(f, "{argument}")?;
+        }
+        Ok(())
+    }
+}
+
+// An argument behind one that may follow, in brackets where it may be left out by itself.
+#[derive(Drop)]
+struct FurtherArgument<'a>(&'a ArgumentWords);
+
+impl fmt::Display for FurtherArgument<'_> {
+    ghost use Rattle.std.specs.Prelude.{Some};
+    ghost use Rattle.fedrun_help.specs.Usage.{further_argument};
+
+    ghost output = { λ argument. Some (further_argument argument.0.now) };
+
+    fn fmt<W: fmt::Write>(&self, f: &mut fmt::Formatter<W>) -> fmt::Result {
+        let argument = Argument(self.0);
+        if self.0.is_separate {
+            write!(f, " [{argument}]")
+        } else {
+            write!(f, " {argument}")
         }
     }
 }

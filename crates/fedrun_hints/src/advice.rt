@@ -1,6 +1,8 @@
 //! What to do about faults for which no file is looked at: a line for each.
 use fedrun_hosts::HostFault;
 use fedrun_reports::NodeFileFault;
+use files_keeping::KeepFault;
+use files_saving::SaveFault;
 use std::fmt;
 use wires::Cause;
 use wires_greeting::SecretFault;
@@ -37,18 +39,45 @@ pub(crate) fn advice_on_run(cause: Cause) -> &'static str {
 
 /// What to do where reports aren't proved.
 pub(crate) const UNPROVED: &str =
-    "a report is missing, is of another run of these files, or was changed: give those of one run, one of each node";
+    "a report is missing, is of another run of these files, is the log of a node that was cut off, or was changed: give those of one run, one of each node, each as it was at its end";
+
+/// The same where no list of steps goes on behind the event that is named.
+pub(crate) const STUCK: &str =
+    "that node heard next what no other says it sent, so rather another's file is wrong than its own: one ends too early, as a log that was cut off, copied in part or read while its node ran, or is of another run, or was changed: compare their lengths and times, and give those of one run, each as it was at its end";
+
+/// The same where a federate's rows aren't what it computed.
+pub(crate) const MISMATCH: &str =
+    "that row isn't what this federate computes of what came to it: its report was changed, or another program wrote it";
 
 /// What to do where reports are proved of a run that isn't finished.
 pub(crate) const UNFINISHED: &str =
     "the reports are proved, and by its own the coordinator isn't finished: where the nodes still run, ask again once they have ended";
+
+/// What to do where a file can't be made.
+const FOLDER: &str = "look whether its folder is there, as seen from this one, and may be changed";
+
+/// The same where it can be made, and not be written.
+const ROOM: &str = "look at the room on the disk and at the folder's permissions";
+
+/// What to do where the file of `--stats` can't be had, for this reason.
+pub(crate) fn advice_on_stats(why: SaveFault) -> &'static str {
+    match why {
+        SaveFault::Exists => {
+            "something that --stats didn't make has this name, or this name with .part behind it, or what has it can't be read: give another name; nothing was begun"
+        }
+        SaveFault::CannotLook | SaveFault::CannotCreate => FOLDER,
+        SaveFault::CannotWrite | SaveFault::CannotSync | SaveFault::CannotRename => ROOM,
+    }
+}
 
 /// What to do about a report or a log that isn't taken.
 pub(crate) fn advice_on_report(why: NodeFileFault) -> Option<&'static str> {
     match why.number() {
         80 => Some("it is of a federate that this federation hasn't"),
         81 => Some("one before it is of the same federate: name one of each"),
-        100 => Some("it is no report, or one of another version: name a node's report, or its log"),
+        100 => Some(
+            "it is no report, or one of another version: the words are FED IN COORDINATOR FEDERATE.., with - in the place of IN where there are no inputs, and the others reports or logs",
+        ),
         101 => Some("it is longer than a report may be"),
         102 => Some("it was cut short, or changed on its way: copy it again from its node"),
         103 => Some(
@@ -62,8 +91,8 @@ pub(crate) fn advice_on_report(why: NodeFileFault) -> Option<&'static str> {
     }
 }
 
-/// What to do about the fault of a node on a machine of its own.
-pub(crate) fn advice_on_node(fault: &HostFault<'_>) -> Option<&'static str> {
+/// What to do about the fault of a node on a machine of its own, which keeps a log or was to keep none.
+pub(crate) fn advice_on_node(fault: &HostFault<'_>, keeps_log: bool) -> Option<&'static str> {
     match fault {
         HostFault::Secret(SecretFault::TooShort) => Some(
             "a secret has at least 16 bytes, not counting zeros at its end; head -c 32 /dev/urandom makes one",
@@ -72,38 +101,45 @@ pub(crate) fn advice_on_node(fault: &HostFault<'_>) -> Option<&'static str> {
             Some("a secret has at most 4096 bytes: another file may be meant")
         }
         HostFault::Secret(SecretFault::Missing) => Some(
-            "an address that isn't on loopback needs --secret FILE, of the same bytes at each node",
+            "a host's name, localhost too, and an address that isn't on loopback need --secret FILE, of the same bytes at each node; 127.0.0.1 needs none",
         ),
         HostFault::ReportExists(_) => {
-            Some("put that file away, or give another name; nothing was begun")
+            Some(
+                "a file of that name is there, or a folder: give another name, of a file, or put away what has that one where it is no other node's report; nothing was begun",
+            )
         }
+        HostFault::PartExists(_) if keeps_log => Some(
+            "another process has this log, as where two nodes are given one report: give each its own; or a node with --sync no was ended in the midst, as a line in the file says: then end the run, remove the file, and begin the run anew",
+        ),
         HostFault::PartExists(_) => Some(
-            "another process has this log; or a node without a log has this report, or was ended in the midst: then end the run, remove the file, and begin the run anew",
+            "where the file begins with fedrep 2, it is this node's log: leave out --sync no, and it goes on; else another process has this report, or a node with --sync no was ended in the midst: then end the run, remove the file, and begin the run anew",
         ),
         HostFault::OtherLog(_) => Some(
-            "the log is of other files, another node or other rules: give the words that belong to it, or another name",
+            "the log is of other files, another node or other rules: give the words that belong to it; or another name, where this node was never let in, as after 118",
         ),
         HostFault::Damaged(_) => Some(
             "put a copy of the log there as it was at its end; else end all nodes, and begin the run anew",
         ),
+        HostFault::Unkept(_, KeepFault::CannotOpen) => Some(
+            "nothing was begun: look whether its folder is there, as seen from this one, and may be changed",
+        ),
         HostFault::Unkept(_, _) => Some(
             "all that left the node is in the log: make room on the disk, look at the folder's permissions, and give the same words again",
         ),
-        HostFault::Unsaved(_, _) => {
-            Some("look at the room on the disk and at the folder's permissions")
-        }
+        HostFault::Unsaved(_, SaveFault::CannotLook | SaveFault::CannotCreate) => Some(FOLDER),
+        HostFault::Unsaved(_, _) => Some(ROOM),
         HostFault::Refused(DialFault::OtherFiles) => Some(
-            "the coordinator has another federation file or another input file: compare sha256sum on both machines",
+            "the coordinator has another federation file or another input file: compare sha256sum on both machines; this node was never let in, so its report or .part is removed before it begins with the right file",
         ),
         HostFault::Refused(DialFault::NoSuchFederate) => Some(
             "who answers there has these very files, and no federate of that number: look at the address",
         ),
         HostFault::Refused(_) => Some("the coordinator lets this federate take part no more"),
         HostFault::NotProved => Some(
-            "whoever answered there hasn't the same secret, or is no coordinator: look at the secret and at the address",
+            "whoever answered there hasn't the same secret, or has one and none was given here, or is no coordinator: compare sha256sum of both secrets, of which each byte counts, and look at the address",
         ),
         HostFault::OtherHistory => Some(
-            "this node or the coordinator was begun anew, or from an older copy of its log: end all nodes, and begin the run anew",
+            "another process of this federate may run, by mistake or of a copied log: end this one, and ask audit of the reports once the others have ended; or one of the two was begun anew or from an older copy of its log: where audit prints no rows, begin the run anew",
         ),
         HostFault::NoSuchFederate(_)
         | HostFault::CannotListen(_)

@@ -1,4 +1,4 @@
-use crate::advice::{UNPROVED, advice_on_node, advice_on_report, advice_on_run};
+use crate::advice::{MISMATCH, STUCK, UNPROVED, advice_on_node, advice_on_report, advice_on_run};
 use fedrun_commands::NodeFault;
 use fedrun_hosts::{HostFault, ListenFault, Unfinished};
 use fedrun_run::AuditFailure;
@@ -12,7 +12,7 @@ pub(crate) enum Cause<'a> {
     /// The file that was asked for last, a federation or recorded inputs of the one before it, which isn't taken for
     /// this fault.
     File(LoadFault),
-    /// This line of the schedule that was asked for last.
+    /// The schedule that was asked for last, of which this line is the first that spells no command.
     ScheduleLine(usize),
     /// This name, which no federate has.
     Federate(&'a str),
@@ -32,7 +32,11 @@ const AUDIT: &str = "audit";
 
 /// What to do where a file can't be read.
 const UNREADABLE: &str =
-    "there is no such file, as seen from this folder, or it can't be read; in the place of IN a - is for no inputs";
+    "there is no such file, as seen from this folder, or it is a folder, or can't be read; in the place of IN a - is for no inputs";
+
+/// The same of a node's secret.
+const UNREADABLE_SECRET: &str =
+    "there is no such file of a secret (--secret), as seen from this folder, or it is a folder, or can't be read by this user";
 
 /// The same of standard input.
 const UNREADABLE_INPUT: &str =
@@ -62,7 +66,7 @@ fn further_cause<'a>(is_audit: bool, fault: &NodeFault<'a>) -> Cause<'a> {
         NodeFault::NotFinished(_) if is_audit => Cause::Reports,
         NodeFault::NotFinished(cause) => Cause::Advice(advice_on_run(*cause)),
         NodeFault::Unproved(AuditFailure::Memory) => Cause::Nothing,
-        NodeFault::Unproved(_) if is_audit => Cause::Advice(UNPROVED),
+        NodeFault::Unproved(failure) if is_audit => Cause::Advice(advice_on_audit(failure)),
         NodeFault::Unproved(_)
         | NodeFault::Schedule(_)
         | NodeFault::World(_)
@@ -72,14 +76,32 @@ fn further_cause<'a>(is_audit: bool, fault: &NodeFault<'a>) -> Cause<'a> {
     }
 }
 
-/// The cause of a node's fault.
-pub(crate) fn cause_in_node<'a>(fault: Fault<'a, HostFault<'a>>) -> Cause<'a> {
+// What to do where an audit doesn't believe reports.
+fn advice_on_audit(failure: &AuditFailure) -> &'static str {
+    match failure {
+        AuditFailure::Stuck { .. } => STUCK,
+        AuditFailure::Mismatch { .. } => MISMATCH,
+        _ => UNPROVED,
+    }
+}
+
+/// The cause of a node's fault, which keeps a log or was to keep none, and whose secret is in this file.
+pub(crate) fn cause_in_node<'a>(
+    fault: Fault<'a, HostFault<'a>>,
+    keeps_log: bool,
+    secret: Option<&str>,
+) -> Cause<'a> {
+    if let Fault::CannotRead(name) = &fault {
+        if secret == Some(*name) && *name != "-" {
+            return Cause::Advice(UNREADABLE_SECRET);
+        }
+    }
     match common_cause(fault) {
         Ok(cause) => cause,
         Err(HostFault::NoSuchFederate(name)) => Cause::Federate(name),
         Err(HostFault::CannotListen(why)) => Cause::Address(why),
         Err(HostFault::NotFinished(why)) => Cause::Run(why),
-        Err(fault) => advised(advice_on_node(&fault)),
+        Err(fault) => advised(advice_on_node(&fault, keeps_log)),
     }
 }
 

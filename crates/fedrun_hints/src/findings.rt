@@ -9,8 +9,8 @@ use std::alloc::Global;
 use std::fmt;
 use std::io::Write;
 
-/// How many findings are told besides the first.
-const MOST_MORE: usize = 9;
+/// How many findings of a file are told besides the first.
+pub(crate) const MOST_MORE: usize = 9;
 
 const MORE: &str = "there is more: fedrun lint FED, or fedrun lint FED IN, prints it";
 

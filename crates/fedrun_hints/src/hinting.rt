@@ -1,17 +1,18 @@
 ghost use Rattle.std.specs.Prelude.{◌≡◌, false};
 
-use crate::advice::{Advice, UNFINISHED};
+use crate::advice::{Advice, UNFINISHED, advice_on_stats};
 use crate::cause::{Cause, cause_in_command, cause_in_node};
 use crate::findings::{plan_of, print_findings};
-use crate::names::{NoSuchName, federate_names, meant_name};
-use crate::node_ends::{print_listener, print_node_end};
+use crate::node_ends::{keeps_log, print_listener, print_node_end, secret_of};
 use crate::noted_files::{NotedFile, NotedFiles};
-use crate::schedule_lines::print_schedule_line;
+use crate::schedule_lines::print_schedule_lines;
 use crate::standings::print_standings;
 use fedrun_commands::NodeFault;
 use fedrun_files::Files;
 use fedrun_hosts::HostFault;
+use fedrun_lint_schedule::{NoSuchName, federate_names, meant_name};
 use fedrun_words::{Fault, Request, print_text, read_words};
+use files_saving::SaveFault;
 use std::alloc::Global;
 use std::fmt;
 use std::io::Write;
@@ -44,8 +45,22 @@ pub fn print_node_hint<'a, F: Files + Drop, E: Write>(
     ensures unasked { files.old.is_noting ≡ false → err.new ≡ err.old }
 {
     if files.is_noting {
-        let cause = cause_in_node(fault);
+        let cause = cause_in_node(fault, keeps_log(alloc, words), secret_of(alloc, words));
         print_cause(alloc, words, cause, files, err);
+    }
+}
+
+/// The same where the file of `--stats` can't be had, for this reason.
+pub fn print_stats_hint<F: Files + Drop, E: Write>(
+    why: SaveFault,
+    files: &NotedFiles<F>,
+    err: &mut E,
+)
+    ensures unasked { files.now.is_noting ≡ false → err.new ≡ err.old }
+{
+    if files.is_noting {
+        let advice = advice_on_stats(why);
+        let _is_told = print_text(err, &Advice(advice));
     }
 }
 
@@ -58,7 +73,7 @@ fn print_cause<'a, F: Files + Drop, E: Write>(
 ) {
     match cause {
         Cause::File(fault) => print_findings(alloc, fault, files.noted(), err),
-        Cause::ScheduleLine(number) => print_schedule_line(alloc, number, files.noted(), err),
+        Cause::ScheduleLine(number) => print_schedule_lines(alloc, number, files.noted(), err),
         Cause::Federate(name) => print_federates(alloc, name, files.noted(), err),
         Cause::Address(why) => print_listener(alloc, words, why, err),
         Cause::Run(why) => print_node_end(alloc, words, why, files, err),

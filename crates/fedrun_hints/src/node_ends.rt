@@ -9,7 +9,25 @@ use files_saving::temporary_name;
 use std::alloc::Global;
 use std::fmt;
 use std::io::Write;
-use wires_hosts::{DialFault, HostAddress};
+use wires_hosts::{DialFault, HostAddress, Unreached};
+
+/// Whether the node for which the words ask keeps a log.
+pub(crate) fn keeps_log(alloc: Global, words: &[String]) -> bool {
+    match read_node_words(alloc, words) {
+        Ok(HostRequest::Coordinate(node)) => node.log.is_some(),
+        Ok(HostRequest::Join { node, .. }) => node.log.is_some(),
+        Err(_) => false,
+    }
+}
+
+/// The file of the secret of the node for which the words ask, if it has one.
+pub(crate) fn secret_of<'a>(alloc: Global, words: &'a [String]) -> Option<&'a str> {
+    match read_node_words(alloc, words) {
+        Ok(HostRequest::Coordinate(node)) => node.secret,
+        Ok(HostRequest::Join { node, .. }) => node.secret,
+        Err(_) => None,
+    }
+}
 
 /// Tells why the coordinator for which the words ask can't listen at its address.
 pub(crate) fn print_listener<E: Write>(
@@ -22,6 +40,11 @@ pub(crate) fn print_listener<E: Write>(
         let address = node.address;
         let _is_told = print_text(err, &NoListener { address, why });
     }
+}
+
+// Whether an address is a host's name, which may have none.
+fn is_named(address: &HostAddress) -> bool {
+    matches!(address, HostAddress::Named(_, _))
 }
 
 // Why nothing can listen at an address, on a line.
@@ -46,6 +69,10 @@ impl fmt::Display for NoListener {
             ListenFault::NotAllowed => write!(
                 f,
                 "help: whoever runs this may not listen at {address}: take a port from 1024 on\n"
+            ),
+            ListenFault::Other if is_named(&address) => write!(
+                f,
+                "help: the system gives no listener at {address}: look whether the name has an address (getent hosts), and at the open files (ulimit -n)\n"
             ),
             ListenFault::Other => write!(
                 f,
@@ -159,7 +186,21 @@ impl fmt::Display for NodeEnd {
                 f,
                 "help: {how}: it was connected; look at the coordinator at {address}, and at the federates that it waits for\n"
             ),
-            Look::Attempt(DialFault::NotConnected) => write!(
+            Look::Attempt(DialFault::NotConnected(Unreached::NoAddress)) => write!(
+                f,
+                "help: {how}: no address was found for {address}; look whether the name has one (getent hosts)\n"
+            ),
+            Look::Attempt(DialFault::NotConnected(Unreached::NoWay | Unreached::TimeOver)) => {
+                write!(
+                    f,
+                    "help: {how}: nothing answered from {address}; look whether that machine is on, and at the way to it\n"
+                )
+            }
+            Look::Attempt(DialFault::NotConnected(_)) if is_named(&address) => write!(
+                f,
+                "help: {how}: nobody took the last connection to {address}; look whether the name has an address (getent hosts), whether the coordinator listens there, and at the way to it\n"
+            ),
+            Look::Attempt(DialFault::NotConnected(_)) => write!(
                 f,
                 "help: {how}: nobody took the last connection to {address}; look whether the coordinator listens there, and at the way to it\n"
             ),

@@ -54,7 +54,7 @@ secret_text Missing = codes "114 NoSecret"
 
 -- what the coordinator answered, by its name
 abbrev pub refusal_name : DialFault → List ℕ
-refusal_name dial.NotConnected = codes "Refused"
+refusal_name (dial.NotConnected why) = codes "Refused"
 refusal_name dial.NoRandom = codes "Refused"
 refusal_name dial.NoAnswer = codes "Refused"
 refusal_name dial.NotProved = codes "Refused"
@@ -71,8 +71,8 @@ unfinished_by gave_up last = if gave_up then OutOfPatience last else Stopped las
 -- run is finished
 abbrev pub fault_of_attempt : Bool → Option DialFault → Option HostFault
 fault_of_attempt gave_up None = Some (NotFinished (unfinished_by gave_up None))
-fault_of_attempt gave_up (Some dial.NotConnected) =
-    Some (NotFinished (unfinished_by gave_up (Some dial.NotConnected)))
+fault_of_attempt gave_up (Some (dial.NotConnected why)) =
+    Some (NotFinished (unfinished_by gave_up (Some (dial.NotConnected why))))
 fault_of_attempt gave_up (Some dial.NoRandom) = Some (NotFinished (unfinished_by gave_up (Some dial.NoRandom)))
 fault_of_attempt gave_up (Some dial.NoAnswer) = Some (NotFinished (unfinished_by gave_up (Some dial.NoAnswer)))
 fault_of_attempt gave_up (Some dial.NotProved) = Some NotProved

@@ -13,12 +13,13 @@ use crate::gathering::{Replayed, gather_replayed, replayed_desk};
 use crate::listen_fault::ListenFault;
 use crate::loaded::{Loaded, load};
 use crate::logged::{Begun, begin, fault_of, finish, head_of};
+use crate::looks::CoordinatorLook;
 use crate::patience::{telling_patience, watcher};
 use crate::report::{reserve_report, save_report};
 use crate::request::NodeRequest;
 use crate::saying::{say_finished, say_listening};
 use crate::unfinished::Unfinished;
-use crate::watched::tell_names;
+use crate::watched::{tell_begin, tell_log, tell_names};
 use coordinator::Coordinator;
 use crossbeam_channel::Receiver;
 use desk::{Desk, Shared};
@@ -41,11 +42,12 @@ use std::random::RandomSource;
 use std::sync::Wait;
 use std::time::{Clock, Duration};
 use wires::{
-    CoordinatorLines, NetRuntime, RunFault, WorkerResult, channels, gather_desk, run_coordinator,
+    CoordinatorLines, NetRuntime, RunFault, WorkerResult, channels, counts_of, gather_desk,
+    run_coordinator,
 };
 use wires_hosts::{
-    Barrier, Happening, Heard, HostAcceptor, HostAddress, HostEntrance, NoBarrier, Teller, Unkept,
-    listen_at,
+    Barrier, Happening, Heard, HostAcceptor, HostAddress, HostEntrance, Look, Moment, NoBarrier,
+    Teller, Unkept, Watching, listen_at,
 };
 use wires_transports::{Accepted, Acceptor, Ending};
 use wires_workers::NoGate;
@@ -61,8 +63,8 @@ use wires_workers::NoGate;
 /// saved, and not before: where it is lost, none of them has ended as if all were well. Its report's name is reserved
 /// before anybody can connect, and stays so where it ends in the midst.
 ///
-/// Who is let in and who isn't, whose connection has ended, that the run is finished and who has heard so, or that it
-/// gives up, is told by `teller`.
+/// Who is awaited, who is let in and who isn't, whose connection has ended, that the run stands still and for whom, that
+/// it is finished and who has heard so, or that it gives up, is told by `teller`.
 pub fn coordinate<
     'a,
     R: NetRuntime + RandomSource,
@@ -90,6 +92,7 @@ pub fn coordinate<
         Err(fault) => return Err(fault),
     };
     tell_names(rt, alloc, &loaded);
+    tell_begin(rt, &loaded);
     match node.log {
         Some(kept_by) => coordinate_logging(rt, alloc, node, &loaded, kept_by, disk, logs, out),
         None => coordinate_reporting(rt, alloc, node, &loaded, disk, logs, out),
@@ -255,6 +258,7 @@ fn went_on<'a, R: NetRuntime + RandomSource, V: Device + Drop + Send, O: Write>(
     let Ok(desk) = coordinator_desk(alloc, &loaded.sources.plan) else {
         return Err(Fault::More(HostFault::Memory(desk::Memory)));
     };
+    tell_log(rt, loaded, journal.len());
     let replayed = match replayed_desk(rt, alloc, Shared::new(desk), journal) {
         Ok(replayed) => replayed,
         Err(memory) => return Err(Fault::More(HostFault::Memory(memory))),
@@ -431,6 +435,34 @@ fn run_listening<'n, R: NetRuntime + RandomSource, B: Barrier + Sync>(
     shared: &Shared<Coordinator<'n>>,
     barrier: &B,
 ) -> Result<Vec<WorkerResult>, RunFault> {
+    let look = CoordinatorLook {
+        shared,
+        stop: loaded.sources.plan.stop_time(),
+    };
+    loaded.teller.measure(rt, rt, Moment::Runs);
+    let results = run_watched(rt, alloc, node, loaded, listener, shared, barrier, look);
+    // What is said of its end stands below nothing that is wiped.
+    loaded.teller.wipe(rt, alloc);
+    if let Ok(left) = &results {
+        let counts = counts_of(left);
+        loaded
+            .teller
+            .measure(rt, rt, Moment::CoordinatorRan(counts));
+    }
+    results
+}
+
+// The same, where it is looked at so.
+fn run_watched<'n, R: NetRuntime + RandomSource, B: Barrier + Sync, L: Look + Send>(
+    rt: &R,
+    alloc: Global,
+    node: &NodeRequest<'_>,
+    loaded: &Loaded,
+    listener: TcpListener,
+    shared: &Shared<Coordinator<'n>>,
+    barrier: &B,
+    look: L,
+) -> Result<Vec<WorkerResult>, RunFault> {
     let count = loaded.sources.plan.federate_count();
     let heard = Heard::watched(alloc, count, loaded.teller.another())?;
     let barrier = Lent { barrier };
@@ -444,8 +476,11 @@ fn run_listening<'n, R: NetRuntime + RandomSource, B: Barrier + Sync>(
     let entrance = entrance(loaded, listener, Duration::from_secs(0));
     let acceptor = HostAcceptor::new(alloc, rt, entrance, &heard, &barrier, readers);
     let lines = lines_of(arrivals, acceptor)?;
-    let watcher = watcher(node, &heard, &barrier, &ending, None);
-    run_coordinator(rt, alloc, shared, lines, watcher, &NoGate, &ending)
+    let watching = Watching {
+        patience: watcher(node, &heard, &barrier, &ending, None),
+        look,
+    };
+    run_coordinator(rt, alloc, shared, lines, watching, &NoGate, &ending)
 }
 
 // The connections of a coordinator, where there is memory for who lets them in.
@@ -497,7 +532,9 @@ fn tell_finished<R: Wait + Clock + RandomSource>(
     let acceptor = HostAcceptor::new(alloc, rt, entrance, &heard, &NoBarrier, readers)?;
     let ending = Ending::new();
     ending.set();
+    loaded.teller.measure(rt, rt, Moment::Tells);
     acceptor.let_in(rt, alloc, &ending);
+    loaded.teller.measure(rt, rt, Moment::HasTold);
     Ok(())
 }
 

@@ -14,11 +14,13 @@ use crate::fault::HostFault;
 use crate::gathering::{Replayed, gather_replayed, replayed_desk};
 use crate::loaded::{Loaded, load};
 use crate::logged::{Begun, begin, fault_of, finish, head_of};
+use crate::looks::FederateLook;
 use crate::patience::watcher;
 use crate::report::{reserve_report, save_report};
 use crate::request::NodeRequest;
 use crate::saying::say_finished;
 use crate::unfinished::Unfinished;
+use crate::watched::{tell_begin, tell_log, tell_own_name};
 use desk::{Memory, Shared};
 use federate::Federate;
 use fedrun_files::Files;
@@ -37,9 +39,12 @@ use recorder_reports::Report;
 use std::alloc::Global;
 use std::io::Write;
 use std::random::RandomSource;
-use wires::{FederateLines, FederateRun, NetRuntime, RunFault, Terms, gather_desk, run_federate};
+use wires::{
+    FederateLines, FederateRun, NetRuntime, RunFault, Terms, counts_of, gather_desk, run_federate,
+};
 use wires_hosts::{
-    Barrier, DialFault, FederateHost, Heard, HostDial, LastConnection, NoBarrier, Teller,
+    Barrier, DialFault, FederateHost, Heard, HostDial, LastConnection, Look, Moment, NoBarrier,
+    Teller, Watching,
 };
 use wires_transports::Ending;
 use wires_workers::NoGate;
@@ -54,7 +59,7 @@ use wires_workers::NoGate;
 /// Without one its report is written at its end, whatever came of the run. The report's name is reserved before it
 /// connects, and stays so where it ends in the midst: so it isn't begun anew by the same words, without what it knew.
 ///
-/// What happens to its connections, and that it gives up, is told by `teller`.
+/// What happens to its connections, how far it is, that it stands still, and that it gives up, is told by `teller`.
 pub fn join<
     'a,
     R: NetRuntime + RandomSource,
@@ -86,6 +91,8 @@ pub fn join<
     let Some(number) = number_of(&loaded.sources.plan, name) else {
         return Err(Fault::More(HostFault::NoSuchFederate(name)));
     };
+    tell_own_name(rt, alloc, &loaded, number);
+    tell_begin(rt, &loaded);
     let joined = Joined {
         node,
         loaded: &loaded,
@@ -128,7 +135,7 @@ fn join_reporting<
         joined.now.node.now.report.now (D.contents disk.old) (D.contents disk.new)) }
 {
     let Joined { node, loaded, .. } = *joined;
-    let Ok(heard) = Heard::watched(alloc, 0, joined.loaded.teller.another()) else {
+    let Ok(heard) = Heard::watched(alloc, 1, joined.loaded.teller.another()) else {
         return Err(Fault::More(HostFault::Memory(desk::Memory)));
     };
     let reserved = match reserve_report(alloc, node.report, disk, logs) {
@@ -270,13 +277,14 @@ fn went_on<'a, R: NetRuntime + RandomSource, V: Device + Drop + Send>(
 ) -> Result<LogFile<V>, Fault<'a, HostFault<'a>>>
     requires { IsGiven joined.now }
 {
-    let Ok(heard) = Heard::watched(alloc, 0, joined.loaded.teller.another()) else {
+    let Ok(heard) = Heard::watched(alloc, 1, joined.loaded.teller.another()) else {
         return Err(Fault::More(HostFault::Memory(desk::Memory)));
     };
     let shared = match shared_desk(alloc, joined) {
         Ok(shared) => shared,
         Err(memory) => return Err(Fault::More(HostFault::Memory(memory))),
     };
+    tell_log(rt, joined.loaded, journal.len());
     match replayed_desk(rt, alloc, shared, journal) {
         Ok(replayed) => ran_logging(rt, alloc, joined, &heard, replayed, file),
         Err(memory) => Err(Fault::More(HostFault::Memory(memory))),
@@ -372,6 +380,32 @@ fn run_joined<'n, R: NetRuntime + RandomSource, B: Barrier + Sync>(
     heard: &Heard,
     barrier: &B,
 ) -> Result<FederateRun, RunFault> {
+    let loaded = joined.loaded;
+    let look = FederateLook {
+        shared,
+        stop: loaded.sources.plan.stop_time(),
+    };
+    loaded.teller.measure(rt, rt, Moment::Runs);
+    let run = run_watched(rt, alloc, joined, shared, heard, barrier, look);
+    // What is said of its end stands below nothing that is wiped.
+    loaded.teller.wipe(rt, alloc);
+    if let Ok(left) = &run {
+        let counts = counts_of(&left.results);
+        loaded.teller.measure(rt, rt, Moment::FederateRan(counts));
+    }
+    run
+}
+
+// The same, where it is looked at so.
+fn run_watched<'n, R: NetRuntime + RandomSource, B: Barrier + Sync, L: Look + Send>(
+    rt: &R,
+    alloc: Global,
+    joined: &Joined<'_, '_>,
+    shared: &Shared<Federate<'n>>,
+    heard: &Heard,
+    barrier: &B,
+    look: L,
+) -> Result<FederateRun, RunFault> {
     let Joined {
         node,
         loaded,
@@ -382,13 +416,16 @@ fn run_joined<'n, R: NetRuntime + RandomSource, B: Barrier + Sync>(
     let host = host(node, loaded, number);
     let last = LastConnection::new();
     let dial = HostDial::new(rt, host, heard, barrier, &last, &ending);
-    let watcher = watcher(node, heard, barrier, &ending, Some(&last));
+    let watching = Watching {
+        patience: watcher(node, heard, barrier, &ending, Some(&last)),
+        look,
+    };
     let lines = FederateLines {
         number: usize::from(number),
         dial,
         terms,
     };
-    run_federate(rt, alloc, shared, lines, watcher, &NoGate, &ending)
+    run_federate(rt, alloc, shared, lines, watching, &NoGate, &ending)
 }
 
 // Whom the node connects, and where to: the federate of this number, to the node's address, with the key and the files
@@ -426,7 +463,7 @@ fn fault_by(
         Some(fault @ (DialFault::OtherFiles | DialFault::NoSuchFederate | DialFault::NotAllowed)) =>
             Some(HostFault::Refused(fault)),
         Some(DialFault::NotProved) => Some(HostFault::NotProved),
-        Some(DialFault::NotConnected | DialFault::NoRandom | DialFault::NoAnswer) | None => {
+        Some(DialFault::NotConnected(_) | DialFault::NoRandom | DialFault::NoAnswer) | None => {
             Some(HostFault::NotFinished(unfinished_by(gave_up, last)))
         }
     }

@@ -29,6 +29,7 @@ pub mod listen_fault;
 mod loaded;
 mod locked;
 mod logged;
+mod looks;
 mod patience;
 mod report;
 pub mod request;

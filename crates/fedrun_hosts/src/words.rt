@@ -1,7 +1,7 @@
 use crate::request::{HostRequest, NodeRequest};
 use clap::ArgMatches;
 use clap::error::ErrorKind;
-use fedrun_words::{WordsFault, asks_for_help, command_line, count, host_and_port};
+use fedrun_words::{WordsFault, asks_for_help, command_line, count, host_and_port, is_stats_file};
 use files_keeping::KeptBy;
 use signal::wire::BATCHING;
 use std::alloc::Global;
@@ -69,6 +69,9 @@ fn requested<'a>(matches: &ArgMatches<'a>) -> Option<HostRequest<'a>> {
 
 // What every node is given, with the address under this option.
 fn node<'a>(given: &ArgMatches<'a>, address: &str) -> Option<NodeRequest<'a>> {
+    if !is_stats_file(given) {
+        return None;
+    }
     Some(NodeRequest {
         federation: given.get_str("FED")?,
         inputs: given.get_str("IN")?,

@@ -149,7 +149,8 @@ refused_of_both federation inputs None (Some r) is wrong = inr refl
 refused_of_both federation inputs None None is wrong =
     absurd (wrong (record { draft = is.draft; programs = is.programs; taken = is.taken; recorded = is.agrees }))
 
-refused_first : (fault : LoadFault) (refused : Option Refusal) → IsFirst fault refused → IsSome refused
+-- where there is a first fault, something is refused
+pub refused_first : (fault : LoadFault) (refused : Option Refusal) → IsFirst fault refused → IsSome refused
 refused_first fault None first = absurd first
 refused_first fault (Some r) first = refl
 

@@ -5,7 +5,7 @@ use Rattle.fedrun_words.specs.Pieces.{AppendsPrinted}
 use Rattle.fedrun_lint.specs.declared.report.Report.{Report}
 use Rattle.fedrun_lint.specs.declared.report.ReportLines.{ReportLines}
 use Rattle.fedrun_lint.specs.Printed.{printed_report}
-use Rattle.fedrun_lint.specs.Answered.{GivenFile, IsReportOn, PrintsReport, BeginsReport}
+use Rattle.fedrun_lint.specs.Answered.{GivenFile, IsReportOn, PrintsReport}
 use Rattle.fedrun_lint.proofs.Agreement.{wrong_where_refused, refused_where_wrong}
 
 module _ (federation inputs : GivenFile) (lines : ReportLines) (report : Report) (is_whole : Bool) (before after : Option (List ℕ))
@@ -20,10 +20,6 @@ module _ (federation inputs : GivenFile) (lines : ReportLines) (report : Report)
 
   gained : AppendsPrinted is_whole before after (printed_report federation.name inputs.name report)
   gained = subst (λ (text : List ℕ). AppendsPrinted is_whole before after text) text_is printed
-
-  -- a report of which a prefix was printed
-  pub begun_report : BeginsReport federation inputs before after
-  begun_report = record { report = report; report_is = is; begun = gained.begun }
 
   -- a report that was printed whole
   pub whole_report : (is_wrong : Bool) → is_whole ≡ true → IsTrue is_wrong ↔ (IsSome report.federation ⊎ IsSome report.inputs) → PrintsReport federation inputs is_wrong before after

@@ -5,7 +5,6 @@ use Rattle.plan.specs.declared.draft.Draft.{Draft}
 use Rattle.reactor_program.specs.Behaviour.{Behaviour}
 use Rattle.loadfed.specs.declared.fault.LoadFault.TheVariants.{OverLimit}
 use Rattle.loadfed.specs.Loaded.{IsFederationFile}
-use Rattle.fedrun_words.specs.Pieces.{AppendsPrefix}
 use Rattle.fedrun_lint.specs.Reports.{IsTaken, IsFirst, IsRefused, AreRecorded, AgreesOnShape, IsReport}
 use Rattle.fedrun_lint.specs.Printed.{printed_report}
 use Rattle.fedrun_lint.specs.declared.printing.NamedFile.{NamedFile}
@@ -51,6 +50,11 @@ pub record GivenFile : Type 0 where
 abbrev pub given_file : NamedFile → GivenFile
 given_file file = record { name = file.name.now; bytes = option_copied file.bytes }
 
+-- the same where there is one
+abbrev pub given_schedule : Option NamedFile → Option GivenFile
+given_schedule None = None
+given_schedule (Some file) = Some (given_file file)
+
 -- a report on two files was printed, and something is said to be wrong exactly where it is
 pub record PrintsReport (federation inputs : GivenFile) (is_wrong : Bool)
     (before after : Option (List ℕ)) : Type 0 where
@@ -58,9 +62,3 @@ pub record PrintsReport (federation inputs : GivenFile) (is_wrong : Bool)
   pub report_is : IsReportOn federation.bytes inputs.bytes report
   pub printed : Appends before after (printed_report federation.name inputs.name report)
   pub wrong : IsTrue is_wrong ↔ (¬ AreRight federation.bytes inputs.bytes)
-
--- of a report on two files a prefix was printed
-pub record BeginsReport (federation inputs : GivenFile) (before after : Option (List ℕ)) : Type 0 where
-  pub report : Report
-  pub report_is : IsReportOn federation.bytes inputs.bytes report
-  pub begun : AppendsPrefix before after (printed_report federation.name inputs.name report)

@@ -1,7 +1,11 @@
--- What a report says of two files, and how it is printed.
--- when a file is refused, and with which fault first
+-- What a report says of two files and of a schedule beside them, and how it is printed.
+-- when one of the two files is refused, and with which fault first
 pub mod Reports
--- its text
+-- the text
 pub mod Printed
 -- what is printed of two named files
 pub mod Answered
+-- what is said of a schedule beside them
+pub mod Schedules
+-- what is printed of all of them
+pub mod Full

@@ -84,7 +84,7 @@ fn advice_of_plan(fault: &PlanFault) -> &'static str {
 fn advice_of_program(fault: ProgramFault) -> &'static str {
     match fault {
         ProgramFault::BadLine { .. } => {
-            "write X = A, X = A OP B, out.P = A or schedule C D A, each perhaps behind when A :, with spaces about = and OP, one OP a line, which is + - * min max < or =="
+            "write X = A, X = A OP B, out.P = A or schedule C D A, each perhaps behind when A :, with spaces about = and OP, one OP a line, which is + - * min max < or ==; A is a whole number, a state, in.N or has.N, C an action, D a delay as 5 ms or 0"
         }
         ProgramFault::UnknownOperand {
             reaction: _,
@@ -93,7 +93,7 @@ fn advice_of_program(fault: ProgramFault) -> &'static str {
             "a trigger is an input, a timer, an action or a physical action of this federate, or startup"
         }
         ProgramFault::UnknownOperand { .. } => {
-            "declare the state, port, timer or action, or correct the name: in. and has. are of what comes in, out. of an output, and schedule of an action that isn't physical"
+            "declare the state, port, timer or action, or correct the name: in. and has. are of what comes in, out. of an output, and schedule of an action that isn't physical; a federate's names are its own"
         }
         ProgramFault::Memory => "free memory, and try again",
         ProgramFault::RepeatedState => "rename one of the states",

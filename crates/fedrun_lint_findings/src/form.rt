@@ -16,6 +16,8 @@ pub(crate) struct Form {
     pub(crate) lists: &'static [&'static str],
     /// What it has, for whoever wrote something else.
     pub(crate) keys: &'static str,
+    /// Keys that stand elsewhere, and where, for whoever wrote them here.
+    pub(crate) strays: &'static [(&'static str, &'static str)],
 }
 
 impl Form {
@@ -28,7 +30,27 @@ impl Form {
         }
         is_one_of(key, self.others) || is_one_of(key, self.lists)
     }
+
+    /// What to do about a key that it can't have: where that stands, or else what it has.
+    pub(crate) fn advice_on(&self, key: &str) -> &'static str {
+        for (stray, advice) in self.strays {
+            if *stray == key {
+                return *advice;
+            }
+        }
+        self.keys
+    }
 }
+
+const OF_SOURCES: &str =
+    "it is one of sources: fedrun expand makes a federation file of one, and fedrun lint FILE --source looks at one";
+
+const OF_FEDERATES: &str = "it is one of a federate: it stands below a header [[federate]]";
+
+const OF_FEDERATIONS: &str =
+    "it is one of a federation file, which is named before the inputs, as FED IN";
+
+const OF_INPUTS: &str = "it is one of an input: it stands below a header [[input]]";
 
 /// Whether a key is one of these.
 pub(crate) fn is_one_of(key: &str, keys: &[&str]) -> bool {
@@ -48,6 +70,31 @@ pub(crate) const FEDERATION_FILE: Form = Form {
     others: &[],
     lists: &["federate", "connection"],
     keys: "a federation file has stop, federate and connection",
+    strays: &[
+        (
+            "input",
+            "it is one of recorded inputs, which are named behind the federation file, as FED IN",
+        ),
+        (
+            "reaction",
+            "write [[federate.reaction]], below the [[federate]] whose it is",
+        ),
+        (
+            "timers",
+            "write [[federate.timers]], below the [[federate]] whose they are",
+        ),
+        (
+            "state",
+            "write [[federate.state]], below the [[federate]] whose it is",
+        ),
+        ("name", OF_FEDERATES),
+        ("inputs", OF_FEDERATES),
+        ("outputs", OF_FEDERATES),
+        ("actions", OF_FEDERATES),
+        ("physical", OF_FEDERATES),
+        ("parameter", OF_SOURCES),
+        ("class", OF_SOURCES),
+    ],
 };
 
 pub(crate) const FEDERATE: Form = Form {
@@ -60,6 +107,18 @@ pub(crate) const FEDERATE: Form = Form {
         "inputs", "outputs", "timers", "actions", "physical", "state", "reaction",
     ],
     keys: "a federate has name, inputs, outputs, actions, physical, timers, state and reaction",
+    strays: &[
+        (
+            "stop",
+            "it stands above the first header, as [[federate]]: below one a key is of that table",
+        ),
+        (
+            "connection",
+            "write it below a header [[connection]], or above the first header: below one a key is of that table",
+        ),
+        ("class", OF_SOURCES),
+        ("count", OF_SOURCES),
+    ],
 };
 
 const TIMER: Form = Form {
@@ -70,6 +129,7 @@ const TIMER: Form = Form {
     others: &["offset", "period"],
     lists: &[],
     keys: "a timer has name, offset and period",
+    strays: &[],
 };
 
 const STATE: Form = Form {
@@ -80,6 +140,7 @@ const STATE: Form = Form {
     others: &[],
     lists: &[],
     keys: "a state has name and value",
+    strays: &[],
 };
 
 const REACTION: Form = Form {
@@ -90,6 +151,7 @@ const REACTION: Form = Form {
     others: &["body"],
     lists: &[],
     keys: "a reaction has triggers and body",
+    strays: &[],
 };
 
 const CONNECTION: Form = Form {
@@ -100,6 +162,7 @@ const CONNECTION: Form = Form {
     others: &["after"],
     lists: &[],
     keys: "a connection has from, to and after",
+    strays: &[],
 };
 
 pub(crate) const INPUT_FILE: Form = Form {
@@ -110,6 +173,20 @@ pub(crate) const INPUT_FILE: Form = Form {
     others: &[],
     lists: &["input"],
     keys: "an input file has input",
+    strays: &[
+        ("stop", OF_FEDERATIONS),
+        ("connection", OF_FEDERATIONS),
+        (
+            "federate",
+            "it is one of an input, below a header [[input]], or of a federation file, which is named before the inputs, as FED IN",
+        ),
+        ("action", OF_INPUTS),
+        ("time", OF_INPUTS),
+        ("micro", OF_INPUTS),
+        ("value", OF_INPUTS),
+        ("parameter", OF_SOURCES),
+        ("class", OF_SOURCES),
+    ],
 };
 
 const INPUT: Form = Form {
@@ -125,6 +202,7 @@ const INPUT: Form = Form {
     others: &["micro"],
     lists: &[],
     keys: "an input has federate, action, time, micro and value",
+    strays: &[],
 };
 
 /// The form of the tables in the array at a key. A federate's is none of these, since its lists are looked at
@@ -165,13 +243,21 @@ pub(crate) fn limit_of(key: &str) -> Option<(usize, &'static str)> {
     None
 }
 
-/// Whether an array of tables stands at a key of a federation file.
-pub(crate) fn has_tables(key: &str) -> bool {
-    matches!(
-        key,
-        "federate" | "connection" | "timers" | "state" | "reaction"
-    )
+/// Whether an array of tables stands at a key: of a federation file, or of recorded inputs.
+pub(crate) fn has_tables(key: &str, is_of_inputs: bool) -> bool {
+    if is_of_inputs {
+        key == "input"
+    } else {
+        matches!(
+            key,
+            "federate" | "connection" | "timers" | "state" | "reaction"
+        )
+    }
 }
+
+/// What stands at the key of an input's federate, for whoever wrote something else there.
+pub(crate) const FORM_OF_INPUTS_FEDERATE: &str =
+    "write the name of a federate in quotes, and behind action the name of one of its physical actions";
 
 /// What stands at a key, for whoever wrote something else there.
 pub(crate) fn form_of(key: &str) -> &'static str {
@@ -180,18 +266,26 @@ pub(crate) fn form_of(key: &str) -> &'static str {
             "a name is 1 to 32 ASCII letters, digits and _ in quotes, the first no digit; when, schedule, min, max, in, out, has, startup and coordinator are none"
         }
         "stop" | "offset" | "period" | "after" | "time" => {
-            "a duration is a text of digits and ns, us, ms or s, as \"5 ms\", or \"0\"; it is below 2^62 ns"
+            "a duration is a text of digits, without a point, and ns, us, ms or s, as \"5 ms\", or \"0\"; it is below 2^62 ns, which are 146 years"
         }
         "inputs" | "outputs" | "actions" | "physical" => {
-            "write an array of names, as [\"x\", \"y\"]; a name is 1 to 32 ASCII letters, digits and _, the first no digit, and no reserved word"
+            "write an array of names, as [\"x\", \"y\"]; a name is 1 to 32 ASCII letters, digits and _, the first no digit; when, schedule, min, max, in, out, has and startup are none"
         }
-        "from" | "to" => "write a federate and its port, as \"src.y\": two names with one dot",
+        "from" | "to" => {
+            "write a federate and its port, as \"src.y\": two names with one dot; what leads to several inputs has a [[connection]] for each"
+        }
         "value" => "write a whole number of 64 bits, without quotes",
         "micro" => "write a whole number from 0 to 4294967295",
         "triggers" => "write at least one text, as [\"t\"]",
         "body" => "write an array of texts, as [\"n = n + 1\", \"out.y = n\"]",
-        "federate" | "connection" | "timers" | "state" | "reaction" | "input" => {
-            "write an array of tables, as [{ .. }, { .. }] or under headers in double brackets; in an input federate is a text"
+        "timers" => {
+            "write an array of tables, as [{ name = \"t\", period = \"5 ms\" }], or under headers in double brackets"
+        }
+        "state" => {
+            "write an array of tables, as [{ name = \"n\", value = 0 }], or under headers in double brackets"
+        }
+        "federate" | "connection" | "reaction" | "input" => {
+            "write an array of tables, as [{ .. }, { .. }] or under headers in double brackets"
         }
         "action" => "write the name of a physical action in quotes",
         _ => "see FILES for what stands here",

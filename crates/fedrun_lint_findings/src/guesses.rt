@@ -1,8 +1,8 @@
 //! What is told of a name that isn't there: one that is and may be meant, a few edits away, with which the loader takes
-//! the entry. Of a reaction, where none may be, that name alone.
+//! the entry. Where none may be, what else is known of it: that it is there for another use, or which ones there are.
 use crate::draft::Draft;
 use crate::form::is_one_of;
-use crate::line_words::{Word, words_of};
+use crate::line_words::{UNITS, Word, begins_as_number, words_of};
 use crate::lists::Kind;
 use crate::look::Look;
 use crate::names::{
@@ -12,29 +12,91 @@ use crate::names::{
 use crate::writing::{OtherText, push_changed};
 use loadfed::LoadFault;
 use plan::{Plan, PlanFault};
+use plan_names::Text;
 use reactor_program::ProgramFault;
 use std::fmt;
 
 /// What it costs to compare a name with another, as this many bytes that are loaded.
 const COMPARING: usize = 128;
 
-/// What stands behind the number of a duration.
-const UNITS: &[&str] = &["ns", "us", "ms", "s"];
+/// What can be done with a name that stands behind one of these in a line.
+const USES: &[(&str, &str)] = &[("in", "can only be read"), ("out", "can only be set")];
+
+const WITHOUT_STARTUP: &str =
+    "there only where startup is a trigger of one of the federate's reactions, and here it is of none";
+
+const OF_ACTION: &str =
+    "no output, and the name of an action: schedule gives that a value, as schedule act 5 ms 7";
 
 /// What is told of a name that isn't there.
 #[derive(Clone, Copy)]
 pub(crate) struct Guess<'a> {
     wrong: Name<'a>,
-    /// The name that may be meant, if one may.
-    meant: Option<Name<'a>>,
+    known: Known<'a>,
+    /// The node of the text that has the name.
+    pub(crate) place: usize,
+}
+
+/// What is known of a name that isn't there.
+#[derive(Clone, Copy)]
+enum Known<'a> {
+    /// This one may be meant.
+    Meant(Name<'a>),
+    /// It is there so alone, and can be used as this says.
+    Alone(Name<'a>, &'static str),
+    /// It is there, and isn't what it has to be.
+    Other(&'static str),
+    /// It is a physical action, of which there are these.
+    Physical(&'a [Text]),
+    Nothing,
+}
+
+impl<'a> Guess<'a> {
+    // It has no name that may be meant.
+    fn of(place: usize, wrong: &'a str, known: Known<'a>) -> Option<Guess<'a>> {
+        Some(Guess {
+            wrong: Name::of(wrong),
+            known,
+            place,
+        })
+    }
 }
 
 impl fmt::Display for Guess<'_> {
     fn fmt<W: fmt::Write>(&self, f: &mut fmt::Formatter<W>) -> fmt::Result {
         let wrong = self.wrong;
-        match self.meant {
-            Some(meant) => write!(f, "no {wrong}, did you mean {meant}? "),
-            None => write!(f, "no {wrong}; "),
+        match self.known {
+            Known::Meant(meant) => write!(f, "no {wrong}, did you mean {meant}? "),
+            Known::Alone(name, use_of_it) => write!(f, "{wrong} {use_of_it}, as {name}; "),
+            Known::Other(what) => write!(f, "{wrong} is {what}; "),
+            Known::Physical(names) => {
+                let names = Listed(names);
+                write!(
+                    f,
+                    "{wrong} is no physical action of this federate; {names}; "
+                )
+            }
+            Known::Nothing => write!(f, "no {wrong}; "),
+        }
+    }
+}
+
+// Names that there are, with commas between them.
+#[derive(Drop)]
+struct Listed<'a>(&'a [Text]);
+
+impl fmt::Display for Listed<'_> {
+    fn fmt<W: fmt::Write>(&self, f: &mut fmt::Formatter<W>) -> fmt::Result {
+        let mut before = "there are ";
+        for name in self.0 {
+            let name = name.as_str();
+            write!(f, "{before}{name}")?;
+            before = ", ";
+        }
+        if self.0.is_empty() {
+            write!(f, "there is none")
+        } else {
+            Ok(())
         }
     }
 }
@@ -77,9 +139,40 @@ fn guess_of_input<'a>(look: &mut Look<'a>, part: &Part<'_>) -> Option<Guess<'a>>
         before: &before,
         behind: part.behind,
     };
-    match guess_of_action(look, &alone, plan) {
-        None => guess_of_federate(look, &alone, plan),
+    let guess = guess_of_action(look, &alone, plan);
+    if guess.is_some() {
+        return guess;
+    }
+    match guess_of_federate(look, &alone, plan) {
+        None => unknown_input(look, part, plan),
         guess => guess,
+    }
+}
+
+// Of a recorded input for which none may be meant: that its federate isn't there, or which physical actions that has.
+fn unknown_input<'a>(look: &Look<'a>, part: &Part<'_>, plan: &'a Plan) -> Option<Guess<'a>> {
+    let tree = look.tree;
+    let place = tree.child(part.entry, "federate");
+    let named = tree.said(place);
+    match plan
+        .federates()
+        .iter()
+        .find(|federate| federate.name.is(named))
+    {
+        Some(federate) => {
+            let physical = Known::Physical(federate.slots.physical.as_slice());
+            guess_of_name(part.place, tree.said(part.place), physical)
+        }
+        None => guess_of_name(place, named, Known::Nothing),
+    }
+}
+
+// What is told of a text that may be a name; nothing of another, which may be long.
+fn guess_of_name<'a>(place: usize, wrong: &'a str, known: Known<'a>) -> Option<Guess<'a>> {
+    if Name::of(wrong).is_possible() {
+        Guess::of(place, wrong, known)
+    } else {
+        None
     }
 }
 
@@ -102,7 +195,25 @@ fn guess_of_federate<'a>(
 // Of a connection.
 fn guess_of_port<'a>(look: &mut Look<'a>, part: &Part<'_>) -> Option<Guess<'a>> {
     let ports = ports_of_all(look.alloc, look.tree);
-    guess_among(look, part, &ports)
+    match guess_among(look, part, &ports) {
+        None => other_port(look, part, &ports),
+        guess => guess,
+    }
+}
+
+// Of a connection's port that is there: that it is one of the other kind.
+fn other_port<'a>(look: &Look<'a>, part: &Part<'_>, ports: &KnownNames<'_>) -> Option<Guess<'a>> {
+    let tree = look.tree;
+    let wrong = tree.said(part.place);
+    if !ports.has(&Name::of(wrong)) {
+        return None;
+    }
+    let what = if part.place == tree.child(part.entry, "from") {
+        "an input, and stands at from"
+    } else {
+        "an output, and stands at to"
+    };
+    Guess::of(part.place, wrong, Known::Other(what))
 }
 
 // Of a reaction's trigger or line.
@@ -130,10 +241,8 @@ fn guess_among<'a>(
         return None;
     };
     for word in words.as_slice() {
-        let meant = meant_by(look, part, words.as_slice(), word.said, names);
-        if meant.is_some() {
-            let wrong = Name::of(word.said);
-            return Some(Guess { wrong, meant });
+        if let Some(meant) = meant_by(look, part, words.as_slice(), word.said, names) {
+            return Guess::of(part.place, word.said, Known::Meant(meant));
         }
     }
     None
@@ -155,7 +264,7 @@ fn meant_by<'a>(
         look.lose();
         return None;
     };
-    for edits in 1..=MOST_EDITS {
+    for edits in 0..=MOST_EDITS {
         for other in near.as_slice() {
             if other.edits == edits && is_taken(look, part, words, word, &other.name) {
                 return Some(other.name);
@@ -217,7 +326,7 @@ fn unknown_in<'a>(
         let wrong = Name::of(word.said);
         let is_unit = is_behind_number && is_one_of(word.said, UNITS);
         if wrong.is_possible() && !is_unit && !names.has(&wrong) {
-            return Some(Guess { wrong, meant: None });
+            return Guess::of(part.place, word.said, known_of(&wrong, names));
         }
         if !word.said.is_empty() {
             is_behind_number = begins_as_number(word.said);
@@ -226,9 +335,23 @@ fn unknown_in<'a>(
     None
 }
 
-fn begins_as_number(word: &str) -> bool {
-    match word.as_bytes() {
-        [first, ..] => first.is_ascii_digit(),
-        [] => false,
+// What is known of a name of a line that none of these is near: that it is a word of other languages, or what it can be
+// used for, if it is there.
+fn known_of<'a>(wrong: &Name<'a>, names: &KnownNames<'_>) -> Known<'a> {
+    if wrong.is_word(&["true", "false"]) {
+        return Known::Other("no value: values are whole numbers, as 1 for true and 0 for false");
     }
+    if wrong.is_behind(&["in", "has"], "startup") {
+        return Known::Other(WITHOUT_STARTUP);
+    }
+    if wrong.is_of_output() && names.has(&wrong.behind("")) {
+        return Known::Other(OF_ACTION);
+    }
+    for (front, use_of_it) in USES {
+        let name = wrong.behind(*front);
+        if names.has(&name) {
+            return Known::Alone(name, *use_of_it);
+        }
+    }
+    Known::Nothing
 }

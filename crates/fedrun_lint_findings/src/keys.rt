@@ -1,6 +1,6 @@
 //! The shape of a table: each of its keys is looked at alone, in the least file that has the table.
 use crate::draft::Draft;
-use crate::form::{Form, form_in, form_of, has_tables, is_one_of};
+use crate::form::{FORM_OF_INPUTS_FEDERATE, Form, form_in, form_of, has_tables, is_one_of};
 use crate::look::{About, Look};
 use crate::tree::Tree;
 use crate::writing::{push_key, push_value};
@@ -39,7 +39,7 @@ fn look_at_key(look: &mut Look<'_>, form: &Form, place: usize) {
     }
     let tree = look.tree;
     if !form.has(tree.key(place)) {
-        look.put(tree.line(place), UNKNOWN, form.keys);
+        look.put(tree.line(place), UNKNOWN, form.advice_on(tree.key(place)));
     } else if tree.is_array(place) {
         look_at_array(look, form, place);
     } else {
@@ -95,14 +95,23 @@ fn put_shape(look: &mut Look<'_>, place: usize, keyed: usize) {
     } else if is_single(look, keyed) {
         put_single(look, line, keyed);
     } else {
-        look.put(line, "", form_of(tree.key(keyed)));
+        look.put(line, "", form_here(look, tree.key(keyed)));
     }
 }
 
-// Whether a table of a federation file stands in the place of an array of them.
+// What stands at a key of the file that is looked at.
+fn form_here(look: &Look<'_>, key: &str) -> &'static str {
+    if look.plan.is_some() && key == "federate" {
+        FORM_OF_INPUTS_FEDERATE
+    } else {
+        form_of(key)
+    }
+}
+
+// Whether a table stands in the place of an array of them.
 fn is_single(look: &Look<'_>, place: usize) -> bool {
     let tree = look.tree;
-    look.plan.is_none() && tree.is_table(place) && has_tables(tree.key(place))
+    tree.is_table(place) && has_tables(tree.key(place), look.plan.is_some())
 }
 
 // Adds the last fault, at this line: that this table is one, and how several are written.
@@ -126,7 +135,7 @@ fn look_for_key(look: &mut Look<'_>, form: &Form, table: usize, key: &str) {
     let mut file = begin(look, form, key);
     file.push(form.behind);
     if look.refuses_shape(&file) {
-        look.put(look.tree.line(table), MISSING, form_of(key));
+        look.put(look.tree.line(table), MISSING, form_here(look, key));
     }
 }
 

@@ -1,4 +1,4 @@
-//! The words of a text as it is written.
+//! The words of a text as it is written: what a body line says, or what in it is a name.
 use std::alloc::{AllocError, Global};
 
 /// A word of a text.
@@ -30,5 +30,31 @@ fn word_at(text: &str, mark: usize, begin: usize, end: usize) -> Word<'_> {
     Word {
         mark: text.get(mark..begin).unwrap_or(""),
         said: text.get(begin..end).unwrap_or(""),
+    }
+}
+
+/// The tokens of a body line: its words without the empty ones, and each colon.
+pub(crate) fn tokens_of(alloc: Global, line: &str) -> Result<Vec<&str>, AllocError> {
+    let words = words_of(alloc, line)?;
+    let mut tokens = Vec::new(alloc);
+    for word in words.as_slice() {
+        if word.mark == ":" {
+            tokens.push(word.mark).map_err(|_| AllocError)?;
+        }
+        if !word.said.is_empty() {
+            tokens.push(word.said).map_err(|_| AllocError)?;
+        }
+    }
+    Ok(tokens)
+}
+
+/// What stands behind the number of a duration.
+pub(crate) const UNITS: &[&str] = &["ns", "us", "ms", "s"];
+
+/// Whether a word begins with a digit.
+pub(crate) fn begins_as_number(word: &str) -> bool {
+    match word.as_bytes() {
+        [first, ..] => first.is_ascii_digit(),
+        [] => false,
     }
 }

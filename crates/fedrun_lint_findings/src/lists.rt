@@ -1,4 +1,5 @@
 //! Lists of which each entry is looked at behind those before it that were taken.
+use crate::bad_lines::put_bad_line;
 use crate::draft::Draft;
 use crate::guesses::{Part, guess_of};
 use crate::keys::put_entry;
@@ -7,6 +8,7 @@ use crate::writing::push_value;
 use loadfed::LoadFault;
 use plan::PlanFault;
 use plan_names::PortName;
+use reactor_program::ProgramFault;
 use std::alloc::Global;
 
 /// How often a list is asked about at most. Before, enough was found or asked.
@@ -177,16 +179,30 @@ fn put(look: &mut Look<'_>, kind: Kind, number: usize, entry: usize, kept: &Draf
     put_told(look, kind, &part);
 }
 
-// Adds the last fault, at the line of this text, with what is told of a name that isn't there.
+// Adds the last fault, at the line of this text, with what is told of a line of no form, or of a name that isn't there.
 fn put_told(look: &mut Look<'_>, kind: Kind, part: &Part<'_>) {
-    let line = look.tree.line(part.place);
+    if is_bad_line(look) {
+        put_bad_line(look, part.place);
+        return;
+    }
     match guess_of(look, kind, part) {
         Some(guess) => {
             let what = format!(in look.alloc; "{guess}");
-            look.add_made(line, what);
+            look.add_made(look.tree.line(guess.place), what);
         }
-        None => look.add(line),
+        None => look.add(look.tree.line(part.place)),
     }
+}
+
+// Whether the last fault is that a line has no form.
+fn is_bad_line(look: &Look<'_>) -> bool {
+    matches!(
+        look.fault(),
+        Some(LoadFault::Program {
+            federate: _,
+            fault: ProgramFault::BadLine { .. },
+        })
+    )
 }
 
 // Whether the last fault isn't told: that there are too many of something a second time, and that a name isn't there

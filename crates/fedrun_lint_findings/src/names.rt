@@ -36,20 +36,43 @@ impl<'a> Name<'a> {
         }
     }
 
+    /// The same name behind another front.
+    pub(crate) fn behind(&self, front: &'a str) -> Name<'a> {
+        Name {
+            front,
+            name: self.name,
+        }
+    }
+
+    /// Whether it is one of these words, without a front.
+    pub(crate) fn is_word(&self, words: &[&str]) -> bool {
+        self.front.is_empty() && is_one_of(self.name, words)
+    }
+
+    /// Whether it is this name behind one of these fronts.
+    pub(crate) fn is_behind(&self, fronts: &[&str], name: &str) -> bool {
+        is_one_of(self.front, fronts) && self.name == name
+    }
+
+    /// Whether it stands where an output does.
+    pub(crate) fn is_of_output(&self) -> bool {
+        self.front == "out"
+    }
+
     /// Whether something may be called so.
     pub(crate) fn is_possible(&self) -> bool {
         is_front(self.front) && is_name_or_startup(self.name)
     }
 
     // How many edits lead from it to another name; none where they are many for its length. Where what stands before
-    // the dot of an operand is another word, the names are the same.
+    // the dot of an operand is another word, the names are the same, and it is nearer than any other name.
     fn edits_to(&self, alloc: Global, other: &Name<'_>) -> Result<Option<usize>, AllocError> {
         if self.front == other.front {
             return few_edits(alloc, self.name, other.name);
         }
         if is_one_of(other.front, FRONTS) {
             return Ok(if self.name == other.name {
-                Some(1)
+                Some(0)
             } else {
                 None
             });
@@ -82,10 +105,11 @@ fn is_name_or_startup(text: &str) -> bool {
 }
 
 /// How many edits lead from a name to another, where they are few for its length: one of so few is likely meant. Letters
-/// that changed places are one edit.
+/// that changed places are one edit. Of a name of one letter another one is as far as any, but for its case.
 pub fn few_edits(alloc: Global, from: &str, to: &str) -> Result<Option<usize>, AllocError> {
     let few = from.len().max(3) / 3;
-    if from.len().abs_diff(to.len()) > few {
+    let are_letters = from.len() == 1 && to.len() == 1;
+    if from.len().abs_diff(to.len()) > few || (are_letters && !from.eq_ignore_ascii_case(to)) {
         return Ok(None);
     }
     let edits = osa_distance(alloc, from, to)?;

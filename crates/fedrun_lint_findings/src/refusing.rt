@@ -1,12 +1,14 @@
 //! Why one file is refused: the loader's own fault first, where it stands, and what else is wrong there.
 ghost use Rattle.std.specs.Prelude.{◌≡◌, IfOk};
 
+use crate::characters::lookalike_behind;
 use crate::federates::look_at_federation;
 use crate::finding::{Finding, advice_of};
 use crate::inputs::look_at_inputs;
 use crate::look::Look;
 use crate::refusal::Refusal;
-use crate::walk::{line_feeds, tree_of};
+use crate::texts::{ADVICE_ON_BRACKET, advice_on_text, begins_outside, line_at};
+use crate::walk::{line_feeds, open_array, tree_of};
 use loadfed::{LoadFault, MOST_BYTES, MOST_INPUT_BYTES};
 use plan::Plan;
 use std::alloc::{AllocError, Global};
@@ -76,12 +78,12 @@ fn up_to(bytes: &[u8], most: usize) -> &[u8] {
     if bytes.len() > most { &[] } else { bytes }
 }
 
-// Why a file is refused that is no TOML document: what its reader says, at the line where it stopped.
+// Why a file is refused that is no TOML document: what its reader says, at the line where it stopped, and what to do.
 fn refusal_of_text(alloc: Global, bytes: &[u8], fault: LoadFault) -> Result<Refusal, AllocError>
     ensures { IfOk result (λ refusal. refusal.first.fault ≡ fault) }
 {
-    let (line, what) = told_by_reader(alloc, bytes)?;
-    let advice = advice_of(&fault);
+    let Stop { line, what, advice } = stop_of_reader(alloc, bytes)?;
+    let advice = advice.unwrap_or(advice_of(&fault));
     Ok(Refusal {
         first: Finding {
             line,
@@ -94,23 +96,62 @@ fn refusal_of_text(alloc: Global, bytes: &[u8], fault: LoadFault) -> Result<Refu
     })
 }
 
-// The line at which the reader of documents stopped, and what it says.
-fn told_by_reader(alloc: Global, bytes: &[u8]) -> Result<(usize, String), AllocError> {
+// Where the reader of documents stopped, what it says, and what to do, if that is known.
+#[derive(Drop)]
+struct Stop {
+    line: usize,
+    what: String,
+    advice: Option<&'static str>,
+}
+
+fn stop_of_reader(alloc: Global, bytes: &[u8]) -> Result<Stop, AllocError> {
     match toml::table_from_slice(alloc, bytes).err() {
-        Some(error) => told_by(alloc, bytes, &error),
-        None => Ok((1, String::new(alloc))),
+        Some(error) => stop_with(alloc, bytes, &error),
+        None => Ok(Stop {
+            line: 1,
+            what: String::new(alloc),
+            advice: None,
+        }),
     }
 }
 
 // The same, where it stopped with this error.
-fn told_by(alloc: Global, bytes: &[u8], error: &Error) -> Result<(usize, String), AllocError> {
+fn stop_with(alloc: Global, bytes: &[u8], error: &Error) -> Result<Stop, AllocError> {
     let Some(span) = error.span() else {
         return Err(AllocError);
     };
     let before = bytes.get(..span.start).unwrap_or(&[]);
+    let number = line_feeds(before).saturating_add(1);
+    let text = std::str::from_utf8(bytes).unwrap_or("");
+    let line = line_at(text, span.start);
     let message = error.message();
-    let what = format!(in alloc; "{message}; ")?;
-    Ok((line_feeds(before).saturating_add(1), what))
+    let open = if begins_outside(line) {
+        open_array(alloc, before, number)?
+    } else {
+        None
+    };
+    if let Some(open) = open {
+        return Ok(Stop {
+            line: number,
+            what: format!(in alloc; "{message}; the [ of line {open} isn't closed; ")?,
+            advice: Some(ADVICE_ON_BRACKET),
+        });
+    }
+    match lookalike_behind(text, span.start) {
+        Some(lookalike) => {
+            let place = lookalike.place;
+            Ok(Stop {
+                line: number,
+                what: format!(in alloc; "{message}; the line's character {place} is ")?,
+                advice: Some(lookalike.advice),
+            })
+        }
+        None => Ok(Stop {
+            line: number,
+            what: format!(in alloc; "{message}; ")?,
+            advice: advice_on_text(bytes, line, message),
+        }),
+    }
 }
 
 // Why a file is refused that has this fault, which comes first: where it was found again, at its line, and else at the

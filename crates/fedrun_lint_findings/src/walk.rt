@@ -9,8 +9,37 @@ pub(crate) fn tree_of(alloc: Global, bytes: &[u8]) -> Result<Tree<'_>, AllocErro
     read_tree(alloc, std::str::from_utf8(bytes).unwrap_or(""))
 }
 
+/// The line of the array in which the beginning of a document ends, where that begins before this line; none where it
+/// ends in no such array.
+pub(crate) fn open_array(
+    alloc: Global,
+    bytes: &[u8],
+    line: usize,
+) -> Result<Option<usize>, AllocError> {
+    let (tree, end) = read_on(alloc, std::str::from_utf8(bytes).unwrap_or(""))?;
+    let mut at = end;
+    for _ in 0..tree.len() {
+        let node = tree.node(at);
+        if node.line < line {
+            return Ok(if tree.is_array(at) {
+                Some(node.line)
+            } else {
+                None
+            });
+        }
+        at = node.back;
+    }
+    Ok(None)
+}
+
 // Where the values of a document stand.
 fn read_tree(alloc: Global, text: &str) -> Result<Tree<'_>, AllocError> {
+    let (tree, _end) = read_on(alloc, text)?;
+    Ok(tree)
+}
+
+// The same, and the node in which reading ended.
+fn read_on(alloc: Global, text: &str) -> Result<(Tree<'_>, usize), AllocError> {
     let mut tree = Tree::new(alloc, text);
     let mut at = Tree::ROOT;
     let mut rest = skip_blank(without_mark(text), true);
@@ -26,7 +55,7 @@ fn read_tree(alloc: Global, text: &str) -> Result<Tree<'_>, AllocError> {
     if tree.is_lost {
         Err(AllocError)
     } else {
-        Ok(tree)
+        Ok((tree, at))
     }
 }
 

@@ -21,7 +21,8 @@ fn has_source(words: &[String]) -> bool {
         .any(|word| word == "--source")
 }
 
-/// What the words ask for: a source in the place of a federation file, and a file of recorded inputs.
+/// What the words ask for: a source in the place of a federation file, and a file of recorded inputs. A source has no
+/// schedule: that is looked at beside the federation file that it becomes.
 pub fn read_lint_words<'a>(
     alloc: Global,
     words: &'a [String],
@@ -39,11 +40,12 @@ pub fn read_lint_words<'a>(
     let Some(given) = matches.subcommand_matches(LINT) else {
         return Err(WordsFault::Usage);
     };
-    match given.get_str("FED") {
-        Some(federation) => Ok(LintRequest {
+    match (given.get_str("FED"), given.get_str("SCHEDULE")) {
+        (Some(federation), None) => Ok(LintRequest {
             federation,
             inputs: given.get_str("IN").unwrap_or("-"),
+            schedule: None,
         }),
-        None => Err(WordsFault::Usage),
+        _ => Err(WordsFault::Usage),
     }
 }

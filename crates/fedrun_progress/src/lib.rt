@@ -10,6 +10,7 @@ pub mod line;
 
 pub use line::{ProgressLine, asks_for_progress};
 use tag::{Tag, Time};
+use wires_traffic::RunCounts;
 
 /// Is told how far a command is.
 pub trait Progress {
@@ -21,6 +22,9 @@ pub trait Progress {
 
     /// This many steps are made by now.
     fn steps(&self, made: usize);
+
+    /// All workers of a run's nodes have ended, and counted this.
+    fn ran(&self, _counts: &RunCounts) {}
 
     /// Nothing more is shown: something else is to be written.
     fn end(&self);

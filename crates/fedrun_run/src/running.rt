@@ -109,8 +109,23 @@ fn run_watched<'a, R: NetRuntime, H: Node + Send, M: Node + Send, P: Progress + 
         ||
             ensures { result ≡ audit.entry }
         { watch(rt, alloc, nodes, audit, progress) },
-        || run_over_tcp(rt, alloc, nodes, &NoGate, terms),
+        || run_counted(rt, alloc, nodes, terms, progress),
     )
+}
+
+// Runs the nodes, and tells what their workers counted.
+fn run_counted<R: NetRuntime, H: Node + Send, M: Node + Send, P: Progress>(
+    rt: &R,
+    alloc: Global,
+    nodes: &Nodes<H, M>,
+    terms: Terms,
+    progress: &P,
+) -> Result<RunResults, RunFault> {
+    let results = run_over_tcp(rt, alloc, nodes, &NoGate, terms);
+    if let Ok(left) = &results {
+        progress.ran(&left.counts());
+    }
+    results
 }
 
 // Takes the desks apart, and writes their rows as text, and makes what is left of the audit's steps beside that.

@@ -2,6 +2,7 @@ ghost use Rattle.fedrun_words.specs.Pieces.{AppendsPrinted};
 ghost use Rattle.fedrun_watch.specs.Lines.{happened_lines};
 
 use crate::lines::HappenedLines;
+use crate::screen::{Screen, View};
 use crossbeam_channel::Receiver;
 use fedrun_words::print_text;
 use plan_names::Text;
@@ -10,24 +11,32 @@ use std::io::Write;
 use std::sync::Wait;
 use wires_hosts::{Happened, Told};
 
-/// Whether lines of what happens are asked for: one of the words is `--log`.
-pub fn asks_for_log(words: &[String]) -> bool {
-    words.iter().any(|word| word.as_str() == "--log")
+/// What is to be shown of a node by these words, which are those of its command: what happens by `--log`, where each
+/// federate stands by `--progress`.
+pub fn view_asked(words: &[String]) -> View {
+    View {
+        lines: words.iter().any(|word| word.as_str() == "--log"),
+        rows: words.iter().any(|word| word.as_str() == "--progress"),
+    }
 }
 
-/// Writes the lines of all that a node tells, as it is told, until the node has ended. A line that can't be written is
-/// left out.
-pub fn show<R: Wait, E: Write>(rt: &R, alloc: Global, told: &Receiver<Told>, err: &mut E) {
-    let mut names = Vec::new(alloc);
+/// Shows all that a node tells, as it is told and as far as it is in view, until the node has ended; then what would be
+/// drawn again is wiped. What can't be written is left out.
+pub fn show<R: Wait, E: Write>(
+    rt: &R,
+    alloc: Global,
+    told: &Receiver<Told>,
+    view: View,
+    err: &mut E,
+) {
+    let mut screen = Screen::new(alloc, view);
     for _ in rt.forever() {
         match told.recv(rt) {
-            Ok(Told::Federates(federates)) => names = federates,
-            Ok(Told::Happened(happened)) => {
-                let _is_written = print_happened(names.as_slice(), &happened, err);
-            }
+            Ok(told) => screen.take(told, err),
             Err(_) => break,
         }
     }
+    screen.wipe(err);
 }
 
 /// Writes the lines of something that happened, at a node whose federates have these names, and says whether all of

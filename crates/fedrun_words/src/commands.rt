@@ -36,6 +36,8 @@ pub struct ArgumentWords {
     pub is_file: bool,
     /// Whether there may be more of them, as last arguments.
     pub is_repeated: bool,
+    /// Whether, of arguments that may follow, those before it may stand without it.
+    pub is_separate: bool,
     pub about: &'static str,
 }
 
@@ -117,7 +119,7 @@ const COMMANDS_OF_FEDERATIONS: &[CommandWords] = &[
         name: "run",
         arguments: &[FED, IN],
         may_follow: &[],
-        options: &[TURNS_OF_EACH, FRAMES, CSV, PROGRESS],
+        options: &[TURNS_OF_EACH, FRAMES, CSV, PROGRESS, STATS],
         about: "in threads, over TCP on loopback: each federate's rows",
         more: &[
             "They are printed once the run is finished and audited.",
@@ -196,10 +198,10 @@ const OTHER_COMMANDS: &[CommandWords] = &[
         kind: CommandKind::Lint,
         name: "lint",
         arguments: &[FED],
-        may_follow: &[IN],
+        may_follow: &[IN, FURTHER_SCHEDULE],
         options: &[AS_SOURCE],
         about: "all that is wrong in the files, and what is odd, with its line",
-        more: &[],
+        more: &["There is no schedule beside a source."],
     },
     CommandWords {
         kind: CommandKind::Expand,
@@ -219,7 +221,16 @@ const OTHER_COMMANDS: &[CommandWords] = &[
         name: "coordinate",
         arguments: &[FED, IN],
         may_follow: &[],
-        options: &[LISTEN, REPORT, SECRET, PATIENCE, SYNC, LOG],
+        options: &[
+            LISTEN,
+            REPORT,
+            SECRET,
+            PATIENCE,
+            SYNC,
+            LOG,
+            PROGRESS_OF_NODE,
+            STATS,
+        ],
         about: "the coordinator alone, for federates on other machines; it writes a report",
         more: &[
             "At an address that isn't on loopback a secret is needed. The reports of all nodes are for audit.",
@@ -240,6 +251,8 @@ const OTHER_COMMANDS: &[CommandWords] = &[
             TURNS_OF_EACH,
             FRAMES,
             LOG,
+            PROGRESS_OF_NODE,
+            STATS,
         ],
         about: "one federate alone; it writes a report",
         more: &[
@@ -293,6 +306,7 @@ const FED: ArgumentWords = ArgumentWords {
     name: "FED",
     is_file: true,
     is_repeated: false,
+    is_separate: false,
     about: "a federation file, or - for standard input",
 };
 
@@ -300,6 +314,7 @@ const IN: ArgumentWords = ArgumentWords {
     name: "IN",
     is_file: true,
     is_repeated: false,
+    is_separate: false,
     about: "a file of recorded inputs, or - for none",
 };
 
@@ -307,6 +322,7 @@ const SOURCE: ArgumentWords = ArgumentWords {
     name: "SOURCE",
     is_file: true,
     is_repeated: false,
+    is_separate: false,
     about: "a source of a federation, or - for standard input",
 };
 
@@ -314,6 +330,7 @@ const VALUE: ArgumentWords = ArgumentWords {
     name: "NAME=VALUE",
     is_file: false,
     is_repeated: true,
+    is_separate: false,
     about: "a parameter of the source, and the whole number that it is to be",
 };
 
@@ -339,6 +356,7 @@ const TURNS: ArgumentWords = ArgumentWords {
     name: "TURNS",
     is_file: false,
     is_repeated: false,
+    is_separate: false,
     about: "how many turns are made at most",
 };
 
@@ -346,13 +364,23 @@ const SCHEDULE: ArgumentWords = ArgumentWords {
     name: "SCHEDULE",
     is_file: true,
     is_repeated: false,
+    is_separate: false,
     about: "a schedule file: which frame comes when, twice, late or never",
+};
+
+const FURTHER_SCHEDULE: ArgumentWords = ArgumentWords {
+    name: "SCHEDULE",
+    is_file: true,
+    is_repeated: false,
+    is_separate: true,
+    about: "a schedule file beside them",
 };
 
 const NAME: ArgumentWords = ArgumentWords {
     name: "NAME",
     is_file: false,
     is_repeated: false,
+    is_separate: false,
     about: "the federate's name",
 };
 
@@ -360,6 +388,7 @@ const COORDINATOR: ArgumentWords = ArgumentWords {
     name: "COORDINATOR",
     is_file: true,
     is_repeated: false,
+    is_separate: false,
     about: "the coordinator's report file, or its log",
 };
 
@@ -367,6 +396,7 @@ const FEDERATE: ArgumentWords = ArgumentWords {
     name: "FEDERATE",
     is_file: true,
     is_repeated: true,
+    is_separate: false,
     about: "a federate's report file, or its log",
 };
 
@@ -374,6 +404,7 @@ const COMMAND: ArgumentWords = ArgumentWords {
     name: "COMMAND",
     is_file: false,
     is_repeated: false,
+    is_separate: false,
     about: "a command's name",
 };
 
@@ -381,6 +412,7 @@ const SHELL: ArgumentWords = ArgumentWords {
     name: "SHELL",
     is_file: false,
     is_repeated: false,
+    is_separate: false,
     about: "bash, zsh or fish",
 };
 
@@ -526,4 +558,22 @@ const LOG: OptionWords = OptionWords {
     is_file: false,
     is_needed: false,
     about: "lines on standard error say who connects, who is lost, who is refused and why, and when it is finished",
+};
+
+const STATS: OptionWords = OptionWords {
+    name: "stats",
+    letter: None,
+    value: Some("FILE"),
+    is_file: true,
+    is_needed: false,
+    about: "the file, in TOML, of what went over connections and how long what took",
+};
+
+const PROGRESS_OF_NODE: OptionWords = OptionWords {
+    name: "progress",
+    letter: None,
+    value: None,
+    is_file: false,
+    is_needed: false,
+    about: "a line on the terminal for each federate says whether it is there and how far it is",
 };

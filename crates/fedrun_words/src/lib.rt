@@ -36,7 +36,10 @@ pub use given::given_words;
 pub use host::host_and_port;
 pub use more::{MoreFault, NoSuchCommand};
 pub use numbers::count;
-pub use reading::{WordsFault, asks_for_help, asks_for_version, command_line, read_words};
+pub use reading::{
+    WordsFault, asks_for_help, asks_for_version, command_line, is_stats_file, read_words,
+    stats_file,
+};
 pub use refusing::{Answered, refuse};
 pub use request::{
     AboutRequest, AboutTopic, AuditRequest, CheckRequest, DrawFederationRequest,

@@ -14,6 +14,12 @@ use std::alloc::{AllocError, Global};
 /// The turns of a run for which no number is given.
 const RUN_TURNS: u32 = 1_000_000;
 
+/// The commands that may be measured.
+const MEASURED: &[&str] = &["run", "coordinate", "join"];
+
+/// The option that asks for it.
+const STATS: &str = "stats";
+
 /// Why the words give no request.
 #[derive(Clone, Copy, Debug, PartialEq, Eq)]
 pub enum WordsFault {
@@ -31,6 +37,37 @@ pub fn read_words<'a>(alloc: Global, words: &'a [String]) -> Result<Request<'a>,
     match command.try_get_matches_from(words) {
         Ok(matches) => requested(alloc, &matches),
         Err(error) => unparsed(&error, words),
+    }
+}
+
+/// The file in which it is to be saved what is measured of a command, where the words ask for that. Words that can't be
+/// parsed don't.
+pub fn stats_file<'a>(alloc: Global, words: &'a [String]) -> Option<&'a str> {
+    let command = command_line(alloc).ok()?;
+    let matches = command.try_get_matches_from(words).ok()?;
+    for name in MEASURED {
+        if let Some(given) = matches.subcommand_matches(*name) {
+            if is_stats_file(given) {
+                return given.get_str(STATS);
+            }
+        }
+    }
+    None
+}
+
+/// Whether what is measured can be saved where that is asked for: in a file that has a name, other than those that the
+/// command is given besides.
+pub fn is_stats_file(given: &ArgMatches<'_>) -> bool {
+    match given.get_str(STATS) {
+        Some(name) => {
+            let others = ["FED", "IN", "report", "secret"];
+            name != ""
+                && name != "-"
+                && others
+                    .iter()
+                    .all(|other| given.get_str(*other) != Some(name))
+        }
+        None => true,
     }
 }
 
@@ -196,6 +233,9 @@ fn replay<'a>(given: &ArgMatches<'a>) -> Option<Request<'a>> {
 }
 
 fn run<'a>(given: &ArgMatches<'a>) -> Option<Request<'a>> {
+    if !is_stats_file(given) {
+        return None;
+    }
     Some(Request::Run(RunRequest {
         federation: given.get_str("FED")?,
         inputs: given.get_str("IN")?,
@@ -284,6 +324,7 @@ fn lint<'a>(given: &ArgMatches<'a>) -> Option<Request<'a>> {
     Some(Request::Lint(LintRequest {
         federation: given.get_str("FED")?,
         inputs: given.get_str("IN").unwrap_or("-"),
+        schedule: given.get_str("SCHEDULE"),
     }))
 }
 

@@ -26,7 +26,7 @@ pub enum Request<'a> {
     DrawSchedule(DrawScheduleRequest<'a>),
     /// The rows that the reports of a run's nodes prove.
     Audit(AuditRequest<'a>),
-    /// All that is wrong or odd in the two files.
+    /// All that is wrong or odd in the files.
     Lint(LintRequest<'a>),
     /// What the program says of its own commands.
     About(AboutRequest),
@@ -140,6 +140,8 @@ pub struct AuditRequest<'a> {
 pub struct LintRequest<'a> {
     pub federation: &'a str,
     pub inputs: &'a str,
+    /// The schedule beside these, where one is given.
+    pub schedule: Option<&'a str>,
 }
 
 /// What the program says of its own commands.

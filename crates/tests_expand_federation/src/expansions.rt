@@ -204,6 +204,17 @@ const SMALL: &[(&str, &str)] = &[
         "stop = '0' # {n}\nfederate = [{ name = \"f\", state = [{ name = \"_1\", value = 1 }] }]",
         "stop = '0' # {n}\nfederate = [{ name = \"f\", state = [{ name = \"_1\", value = 1 }] }]",
     ),
+    // Parameters on the first line, behind the mark of a byte order, which stays.
+    (
+        "\u{feff}parameter = { n = 3 }\nstop = \"{n} s\"\n[[federate]]\nname = \"f\"\n\
+         state = [{ name = \"n\", value = 1 }]\n\
+         timers = [{ name = \"t\", period = \"1 s\" }]\n\
+         reaction = [{ triggers = [\"t\"], body = [\"n = n + n * 2\"] }]\n",
+        "\u{feff}stop = \"3 s\"\n[[federate]]\nname = \"f\"\n\
+         state = [{ name = \"n\", value = 1 }, { name = \"_1\", value = 0 }]\n\
+         timers = [{ name = \"t\", period = \"1 s\" }]\n\
+         reaction = [{ triggers = [\"t\"], body = [\n  \"_1 = n * 2\",\n  \"n = n + _1\",\n] }]\n",
+    ),
 ];
 
 // A federate with this list of states, and with this body.

@@ -96,6 +96,11 @@ const NO_FEDERATIONS: &[(&str, &str)] = &[
          triggers = [\"startup\"]\nbody = [\"n = n * n + 1\"]\n",
         "line 4: 31 WrongShape state",
     ),
+    (
+        "stop = \"0\"\n[[federate]]\nname = \"f\"\n[[federate . state]]\nname = \"n\"\nvalue = 1\n\
+         [[federate.reaction]]\ntriggers = [\"startup\"]\nbody = [\"n = n * n + 1\"]\n",
+        "line 4: 31 WrongShape state",
+    ),
 ];
 
 /// Two federates of one name, with states and a body that are expanded.

@@ -161,6 +161,33 @@ const SMALL: &[(&str, &str)] = &[
         "a = \"{3 > 2 and not 0} {min(4, 5)} {-7 / 2} {-7 % 2} {1 - 2 - 3}\"\n",
         "a = \"1 4 -3 -1 -4\"\n",
     ),
+    // Behind the mark of a byte order, which is no part of the first line and stays where it is.
+    (
+        "\u{feff}[parameter]\nn = 3\n[b]\nd = \"{n}\"\n",
+        "\u{feff}[b]\nd = 3\n",
+    ),
+    (
+        "\u{feff}parameter = { n = 3 }\r\na = \"{n}\"",
+        "\u{feff}a = 3",
+    ),
+    (
+        "\u{feff}[[class]]\nname = \"c\"\nx = \"{i}\"\n[[federate]]\nname = \"f\"\nclass = \"c\"\ncount = 1\n",
+        "\u{feff}[[federate]]\nname = \"f\"\nx = 0\n\n",
+    ),
+    (
+        "\u{feff}[[federate]]\nname = \"f{i}\"\ncount = 2\n",
+        "\u{feff}[[federate]]\nname = \"f0\"\n\n[[federate]]\nname = \"f1\"\n\n",
+    ),
+    (
+        "\u{feff}[[connection]]\nto = \"f{i}.x\"\nfor = \"i in 1..2\"\n",
+        "\u{feff}[[connection]]\nto = \"f1.x\"\n\n[[connection]]\nto = \"f2.x\"\n\n",
+    ),
+    // Spaces around the dots of headers.
+    (
+        "[[class]]\nname = \"c\"\n[class . parameter]\nn = 1\n[[class\t.reaction]]\nbody = [\"{n}\"]\n\
+         [[federate]]\nname = \"f\"\nclass = \"c\"\n",
+        "[[federate]]\nname = \"f\"\n[[federate\t.reaction]]\nbody = [1]\n\n",
+    ),
 ];
 
 #[test]

@@ -23,6 +23,8 @@ const LINES: &[(&str, &[usize])] = &[
         "[[class]]\nname = \"c\"\ninputs = [\n]\n[[federate]]\nclass = \"c\"\nname = \"f\"\n",
         &[7, 7, 3, 4, 4, 5],
     ),
+    // Behind the mark of a byte order.
+    ("\u{feff}parameter = { n = 3 }\na = 1\n", &[2, 3]),
     // A text of several lines.
     ("a = \"\"\"\nx\n{1}\"\"\"\n", &[1, 2, 3, 4]),
 ];

@@ -34,6 +34,20 @@ const REFUSED: &[(&str, &str)] = &[
         "[[class]]\nname = \"c\"\n[[federate]]\nname = \"f\"\nclass = \"c\"\n[federate.with]\nm = 1\n",
         "line 7: 26 UnknownParameter m",
     ),
+    // With spaces around the dot.
+    (
+        "[[class]]\nname = \"c\"\nb = 1\n[class. parameter]\nb = \"x\"\n",
+        "line 5: 31 WrongShape b",
+    ),
+    (
+        "[[class]]\nname = \"c\"\n[[federate]]\nname = \"f\"\nclass = \"c\"\n[ federate .with ]\nm = 1\n",
+        "line 7: 26 UnknownParameter m",
+    ),
+    // On the first line, behind the mark of a byte order.
+    (
+        "\u{feff}parameter = { n = \"x\" }\n",
+        "line 1: 31 WrongShape n",
+    ),
     (
         "[[federate]]\nname = \"f\"\nclass = \"c\\n\"\n",
         "line 3: 31 WrongShape class",

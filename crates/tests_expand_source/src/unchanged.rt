@@ -38,6 +38,10 @@ after = "0"
     "[[federate]]\nname = \"a\"\n[[connection]]\nfrom = \"a.y\"\nto = \"a.x\"\n[[federate.reaction]]\nbody = []\n",
     // A table that no federation file has.
     "count = 3\nclass = \"c\"\n[other]\nfor = \"i in 0..3\"\nwith = { n = 1 }\n[[federates]]\ncount = 2\n",
+    // With the mark of a byte order.
+    "\u{feff}[[federate]]\r\nname = 'a'\r\n",
+    "\u{feff}stop = '1 s'",
+    "\u{feff}",
     "",
     "\n",
     "# nothing but a comment",

@@ -31,6 +31,7 @@ const NOT_THERE: Answer = (
         &["trace", "f", "-", "g"],
         &["lint", "g"],
         &["lint", "f", "g"],
+        &["lint", "f", "-", "g"],
     ],
     1,
     &[],
@@ -115,22 +116,42 @@ deliver up src 2
     Case {
         federation: &[NOTHING_ODD],
         inputs: "[[input]]",
-        schedules: &[(
-            "",
-            &[
-                (&[&["lint", "f"], &["lint", "f", "-"]], 0, &[], &[]),
-                (
-                    &[&["lint", "f", "i"]],
+        schedules: &[
+            (
+                "skip up src\n",
+                &[
+                    (
+                        &[
+                            &["lint", "f"],
+                            &["lint", "f", "-"],
+                            &["lint", "f", "-", "s"],
+                        ],
+                        0,
+                        &[],
+                        &[],
+                    ),
+                    (
+                        &[&["lint", "f", "i"], &["lint", "f", "i", "s"]],
+                        1,
+                        &["i:1: wrong: 31 WrongShape ", ANY, "\n"],
+                        NOT_TAKEN,
+                    ),
+                ],
+            ),
+            (
+                "skip src\n",
+                &[(
+                    &[&["lint", "f", "-", "s"]],
                     1,
-                    &["i:1: wrong: 31 WrongShape ", ANY, "\n"],
+                    &["s:1: wrong: schedule line 1: write skip up NAME or skip down NAME\n"],
                     NOT_TAKEN,
-                ),
-            ],
-        )],
+                )],
+            ),
+        ],
     },
 ];
 
 #[test]
 fn answers_frames_trace_draw_and_lint(rt: HostRuntime) {
-    assert_eq!(rt; answered(&rt, CASES), Ok(19));
+    assert_eq!(rt; answered(&rt, CASES), Ok(23));
 }

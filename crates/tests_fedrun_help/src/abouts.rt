@@ -72,7 +72,7 @@ const HELPS: &[(&str, &str)] = &[
     (
         "coordinate",
         "  fedrun coordinate FED IN --listen ADDRESS:PORT --report FILE [--secret FILE] [--patience SECONDS] \
-                [--sync disk|system|no] [--log]
+                [--sync disk|system|no] [--log] [--progress] [--stats FILE]
       the coordinator alone, for federates on other machines; it writes a report
       At an address that isn't on loopback a secret is needed. The reports of all nodes are for audit.
       Killed in the midst, it goes on from its log by the same words again; with --sync no it has none.
@@ -92,6 +92,10 @@ const HELPS: &[(&str, &str)] = &[
       what has its log before anything leaves it, the disk or the system; the disk where it isn't given
   --log
       lines on standard error say who connects, who is lost, who is refused and why, and when it is finished
+  --progress
+      a line on the terminal for each federate says whether it is there and how far it is
+  --stats FILE
+      the file, in TOML, of what went over connections and how long what took
 ",
     ),
     (
@@ -144,7 +148,7 @@ const PARTS: &[(AboutTopic, &str, &[&str], &str)] = &[
         AboutTopic::Commands,
         "Runs a federation of reactors, ",
         &[
-            "\n\n  fedrun run FED IN [--turns N] [--frames V] [--csv] [--progress]\n      in threads, over TCP",
+            "\n\n  fedrun run FED IN [--turns N] [--frames V] [--csv] [--progress] [--stats FILE]\n      in threads, over TCP",
             "\n  fedrun man\n      the manual page, for man\n  fedrun --version\n",
         ],
         "\n\n  fedrun whole counter.toml - 4\n",
@@ -188,9 +192,10 @@ const PARTS: &[(AboutTopic, &str, &[&str], &str)] = &[
         AboutTopic::Manual,
         ".TH FEDRUN 1\n",
         &[
-            "\n.TP\n.B fedrun lint FED [IN] [--source]\nall that is wrong in the files, and what is odd, with its \
-             line\n.RS\n.TP\nFED\na federation file, or - for standard input\n.TP\nIN\na file of recorded inputs, or - for \
-             none\n.TP\n--source\nFED is a source: what is wrong in it, or odd in what it becomes\n.RE\n.TP\n",
+            "\n.TP\n.B fedrun lint FED [IN [SCHEDULE]] [--source]\nall that is wrong in the files, and what is odd, with \
+             its line\n.br\nThere is no schedule beside a source.\n.RS\n.TP\nFED\na federation file, or - for standard \
+             input\n.TP\nIN\na file of recorded inputs, or - for none\n.TP\nSCHEDULE\na schedule file beside \
+             them\n.TP\n--source\nFED is a source: what is wrong in it, or odd in what it becomes\n.RE\n.TP\n",
             "\n.br\nThe reports of federates stand in any order.\n.RS\n",
         ],
         "\nA fault is told on standard error, on one line.\n",

@@ -1,5 +1,5 @@
 //! What to do about faults of reports, of runs, and of nodes on machines of their own.
-use crate::told::{is_told, no_files, told_of_command, told_of_node};
+use crate::told::{is_told, no_files, told_of_command, told_of_node, told_of_stats};
 use fedrun_commands::NodeFault;
 use fedrun_hosts::HostFault;
 use fedrun_reports::NodeFileFault;
@@ -9,6 +9,7 @@ use files_keeping::KeepFault;
 use files_logs::LogFault;
 use files_reports::{ContentFault, ReadFault, ReportFileFault};
 use files_saving::SaveFault;
+use plan_names::Text;
 use recorder_reports::ReportFault;
 use std::alloc::Global;
 use wires::Cause;
@@ -29,7 +30,8 @@ fn is_advised<'a>(alloc: Global, command: &str, fault: NodeFault<'a>, advice: &s
 const REPORTS: &[(NodeFileFault, &str)] = &[
     (
         NodeFileFault::Report(ReportFileFault::Unread(ReadFault::NoReport)),
-        "it is no report, or one of another version: name a node's report, or its log",
+        "it is no report, or one of another version: the words are FED IN COORDINATOR FEDERATE.., with - in the place \
+         of IN where there are no inputs, and the others reports or logs",
     ),
     (
         NodeFileFault::Report(ReportFileFault::Unread(ReadFault::CutShort)),
@@ -91,7 +93,8 @@ const RUNS: &[(Cause, &str)] = &[
 ];
 
 const UNPROVED: &str =
-    "a report is missing, is of another run of these files, or was changed: give those of one run, one of each node";
+    "a report is missing, is of another run of these files, is the log of a node that was cut off, or was changed: \
+     give those of one run, one of each node, each as it was at its end";
 
 #[test]
 fn tells_what_to_do_about_reports_and_runs(rt: HostRuntime) {
@@ -106,6 +109,42 @@ fn tells_what_to_do_about_reports_and_runs(rt: HostRuntime) {
     }
     let unproved = NodeFault::Unproved(AuditFailure::Double);
     assert!(rt; is_advised(alloc, "audit", unproved, UNPROVED));
+    assert!(rt; is_stuck_advised(alloc));
+    assert!(rt; is_mismatch_advised(alloc));
+}
+
+const STUCK: &str =
+    "that node heard next what no other says it sent, so rather another's file is wrong than its own: one ends too \
+     early, as a log that was cut off, copied in part or read while its node ran, or is of another run, or was changed: \
+     compare their lengths and times, and give those of one run, each as it was at its end";
+
+const MISMATCH: &str =
+    "that row isn't what this federate computes of what came to it: its report was changed, or another program wrote it";
+
+fn name(alloc: Global) -> Option<Text> {
+    Some(Text::new(String::from_str(alloc, "src").ok()?))
+}
+
+// Whether it is told what to do where no event of a node can come next.
+fn is_stuck_advised(alloc: Global) -> bool {
+    match name(alloc) {
+        Some(node) => {
+            let stuck = NodeFault::Unproved(AuditFailure::Stuck { node, event: 3 });
+            is_advised(alloc, "audit", stuck, STUCK)
+        }
+        None => false,
+    }
+}
+
+// The same where a federate's rows aren't what it computed.
+fn is_mismatch_advised(alloc: Global) -> bool {
+    match name(alloc) {
+        Some(federate) => {
+            let mismatch = NodeFault::Unproved(AuditFailure::Mismatch { federate, row: 1 });
+            is_advised(alloc, "audit", mismatch, MISMATCH)
+        }
+        None => false,
+    }
 }
 
 /// Why a node doesn't end well, and what to do.
@@ -120,20 +159,24 @@ const NODES: &[(HostFault<'static>, &str)] = &[
     ),
     (
         HostFault::Secret(SecretFault::Missing),
-        "an address that isn't on loopback needs --secret FILE, of the same bytes at each node",
+        "a host's name, localhost too, and an address that isn't on loopback need --secret FILE, of the same bytes at \
+         each node; 127.0.0.1 needs none",
     ),
     (
         HostFault::ReportExists("a.report"),
-        "put that file away, or give another name; nothing was begun",
+        "a file of that name is there, or a folder: give another name, of a file, or put away what has that one where \
+         it is no other node's report; nothing was begun",
     ),
     (
         HostFault::PartExists("a.report"),
-        "another process has this log; or a node without a log has this report, or was ended in the midst: then end \
-         the run, remove the file, and begin the run anew",
+        "where the file begins with fedrep 2, it is this node's log: leave out --sync no, and it goes on; else \
+         another process has this report, or a node with --sync no was ended in the midst: then end the run, remove \
+         the file, and begin the run anew",
     ),
     (
         HostFault::OtherLog("a.report"),
-        "the log is of other files, another node or other rules: give the words that belong to it, or another name",
+        "the log is of other files, another node or other rules: give the words that belong to it; or another name, \
+         where this node was never let in, as after 118",
     ),
     (
         HostFault::Damaged("a.report"),
@@ -145,12 +188,21 @@ const NODES: &[(HostFault<'static>, &str)] = &[
          same words again",
     ),
     (
+        HostFault::Unkept("a.report", KeepFault::CannotOpen),
+        "nothing was begun: look whether its folder is there, as seen from this one, and may be changed",
+    ),
+    (
         HostFault::Unsaved("a.report", SaveFault::CannotCreate),
+        "look whether its folder is there, as seen from this one, and may be changed",
+    ),
+    (
+        HostFault::Unsaved("a.report", SaveFault::CannotWrite),
         "look at the room on the disk and at the folder's permissions",
     ),
     (
         HostFault::Refused(DialFault::OtherFiles),
-        "the coordinator has another federation file or another input file: compare sha256sum on both machines",
+        "the coordinator has another federation file or another input file: compare sha256sum on both machines; this \
+         node was never let in, so its report or .part is removed before it begins with the right file",
     ),
     (
         HostFault::Refused(DialFault::NoSuchFederate),
@@ -162,12 +214,14 @@ const NODES: &[(HostFault<'static>, &str)] = &[
     ),
     (
         HostFault::NotProved,
-        "whoever answered there hasn't the same secret, or is no coordinator: look at the secret and at the address",
+        "whoever answered there hasn't the same secret, or has one and none was given here, or is no coordinator: \
+         compare sha256sum of both secrets, of which each byte counts, and look at the address",
     ),
     (
         HostFault::OtherHistory,
-        "this node or the coordinator was begun anew, or from an older copy of its log: end all nodes, and begin the \
-         run anew",
+        "another process of this federate may run, by mistake or of a copied log: end this one, and ask audit of the \
+         reports once the others have ended; or one of the two was begun anew or from an older copy of its log: where \
+         audit prints no rows, begin the run anew",
     ),
 ];
 
@@ -185,5 +239,43 @@ fn is_node_advised(alloc: Global, fault: &HostFault<'_>, advice: &str) -> bool {
 fn tells_what_to_do_about_nodes(rt: HostRuntime) {
     for (fault, advice) in NODES {
         assert!(rt; is_node_advised(rt.alloc(), fault, advice), "{advice}");
+    }
+}
+
+/// Why the file of `--stats` can't be had, and what to do.
+const STATS: &[(SaveFault, &str)] = &[
+    (
+        SaveFault::Exists,
+        "something that --stats didn't make has this name, or this name with .part behind it, or what has it can't be \
+         read: give another name; nothing was begun",
+    ),
+    (
+        SaveFault::CannotLook,
+        "look whether its folder is there, as seen from this one, and may be changed",
+    ),
+    (
+        SaveFault::CannotCreate,
+        "look whether its folder is there, as seen from this one, and may be changed",
+    ),
+    (
+        SaveFault::CannotWrite,
+        "look at the room on the disk and at the folder's permissions",
+    ),
+];
+
+// Whether this is told of the file of `--stats`, on a line.
+fn is_stats_advised(alloc: Global, why: SaveFault, advice: &str) -> bool {
+    let files = no_files(alloc);
+    let told = told_of_stats(alloc, why, &files);
+    match format!(in alloc; "help: {advice}\n") {
+        Ok(text) => is_told(&told, text.as_str()),
+        Err(_) => false,
+    }
+}
+
+#[test]
+fn tells_what_to_do_about_counts(rt: HostRuntime) {
+    for (why, advice) in STATS {
+        assert!(rt; is_stats_advised(rt.alloc(), *why, advice), "{advice}");
     }
 }

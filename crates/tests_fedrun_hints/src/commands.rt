@@ -54,7 +54,8 @@ name = "snk"
 reaction = [{ triggers = ["startup"], body = ["total = 1", "n = n / 2"] }]
 "#;
 
-/// The files that there are: federations, one of them on standard input, recorded inputs, schedules and a secret.
+/// The files that there are: federations, one of them on standard input, recorded inputs, schedules, a secret, and the
+/// beginning of a report.
 const FILES: &[(&str, &str)] = &[
     ("f", GOOD),
     ("bad", BAD),
@@ -67,6 +68,7 @@ const FILES: &[(&str, &str)] = &[
     ("s", "announce src\nadvnce src\n"),
     ("t", "announce srk\n"),
     ("short", "0123456789"),
+    ("c", "fedrep 1"),
 ];
 
 /// Words, and what is on standard error.
@@ -85,8 +87,12 @@ const UNKNOWN_STEP: &str =
                             advance? there are announce, advance, deliver, resend, reconnect, forget, skip, round\n";
 
 const NO_FILE: &str =
-    "fedrun: cannot read nothing\nhelp: there is no such file, as seen from this folder, or it can't \
-                       be read; in the place of IN a - is for no inputs\n";
+    "fedrun: cannot read nothing\nhelp: there is no such file, as seen from this folder, or it is a folder, or can't \
+     be read; in the place of IN a - is for no inputs\n";
+
+const NO_SECRET: &str =
+    "fedrun: cannot read nothing\nhelp: there is no such file of a secret (--secret), as seen from this folder, or it \
+     is a folder, or can't be read by this user\n";
 
 /// Commands over these files.
 const COMMANDS: &[Told] = &[
@@ -104,8 +110,8 @@ const COMMANDS: &[Told] = &[
         "fedrun: 14 OverLimit\nworse:5: wrong: 14 OverLimit: 33 stand here; a federate has at most 32 of \
          them\nworse:8: wrong: 21 UnknownOperand snk 1 1: no total; declare the state, port, timer or action, or \
          correct the name: in. and has. are of what comes in, out. of an output, and schedule of an action that \
-         isn't physical\nworse:8: wrong: 20 BadLine snk 1 2: write X = A, X = A OP B, out.P = A or schedule C D A, \
-         each perhaps behind when A :, with spaces about = and OP, one OP a line, which is + - * min max < or ==\n",
+         isn't physical; a federate's names are its own\nworse:8: wrong: 20 BadLine snk 1 2: \"n = n / 2\": / is no \
+         operator here: sources divide, which fedrun expand reads\n",
     ),
     (&["lint", "bad"], "fedrun: not taken\n"),
     // recorded inputs
@@ -120,16 +126,50 @@ const COMMANDS: &[Told] = &[
     ),
     (
         &["replay", "f", "-", "-"],
-        "fedrun: schedule line 1\n-:1: wrong: schedule line 1: no step stop; there are announce, advance, deliver, \
-         resend, reconnect, forget, skip, round\n",
+        "fedrun: schedule line 1\n-:1: wrong: schedule line 1: it is TOML, and no step: the words are FED IN SCHEDULE, \
+         with - in the place of IN for no inputs\n",
     ),
     // files that aren't there, and reports that are none
     (&["check", "nothing"], NO_FILE),
     (&["whole", "f", "nothing", "3"], NO_FILE),
     (
         &["audit", "f", "-", "s", "t"],
-        "fedrun: s: 100 NoReport\nhelp: it is no report, or one of another version: name a node's report, or its \
-         log\n",
+        "fedrun: s: 100 NoReport\nhelp: it is no report, or one of another version: the words are FED IN \
+         COORDINATOR FEDERATE.., with - in the place of IN where there are no inputs, and the others reports or \
+         logs\n",
+    ),
+    // files in each other's place: inputs, a schedule and a report where a federation is expected, a federation and a
+    // report in the place of inputs
+    (
+        &["check", "i"],
+        "fedrun: 31 WrongShape input\ni:1: wrong: 31 WrongShape input: no key of this name stands here; it is one of \
+         recorded inputs, which are named behind the federation file, as FED IN\ni:1: wrong: 31 WrongShape stop: the \
+         key is missing here; a duration is a text of digits, without a point, and ns, us, ms or s, as \"5 ms\", or \
+         \"0\"; it is below 2^62 ns, which are 146 years\n",
+    ),
+    (
+        &["replay", "s", "f", "-"],
+        "fedrun: 30 NotToml\ns:1: wrong: 30 NotToml: key with no value, expected `=`; it is a schedule: FED and IN are \
+         named before it, as replay FED IN SCHEDULE, with - in the place of IN where there are no inputs\n",
+    ),
+    (
+        &["replay", "f", "s", "-"],
+        "fedrun: 30 NotToml\ns:1: wrong: 30 NotToml: key with no value, expected `=`; it is a schedule: FED and IN are \
+         named before it, as replay FED IN SCHEDULE, with - in the place of IN where there are no inputs\n",
+    ),
+    (
+        &["audit", "f", "c", "c", "t"],
+        "fedrun: 30 NotToml\nc:1: wrong: 30 NotToml: key with no value, expected `=`; it is a report of a node, or its log: FED and IN \
+         are named before it, as audit FED IN COORDINATOR FEDERATE, with - in the place of IN where there are no \
+         inputs\n",
+    ),
+    (
+        &["whole", "f", "f", "3"],
+        "fedrun: 31 WrongShape connection\nf:11: wrong: 31 WrongShape connection: no key of this name stands here; it \
+         is one of a federation file, which is named before the inputs, as FED IN\nf:1: wrong: 31 WrongShape stop: no \
+         key of this name stands here; it is one of a federation file, which is named before the inputs, as FED \
+         IN\nf:2: wrong: 31 WrongShape federate: no key of this name stands here; it is one of an input, below a \
+         header [[input]], or of a federation file, which is named before the inputs, as FED IN\n",
     ),
     // a run whose turns are made before it is finished, and what ends well
     (
@@ -240,8 +280,8 @@ const NODES: &[Told] = &[
             "--report",
             "new",
         ],
-        "fedrun: 114 NoSecret\nhelp: an address that isn't on loopback needs --secret FILE, of the same bytes at \
-         each node\n",
+        "fedrun: 114 NoSecret\nhelp: a host's name, localhost too, and an address that isn't on loopback need \
+         --secret FILE, of the same bytes at each node; 127.0.0.1 needs none\n",
     ),
     (
         &[
@@ -271,7 +311,7 @@ const NODES: &[Told] = &[
             "--secret",
             "nothing",
         ],
-        NO_FILE,
+        NO_SECRET,
     ),
 ];
 

@@ -14,7 +14,7 @@ use std::alloc::Global;
 use tag::{FiniteTag, Time};
 use tests_outcomes::NamedFiles;
 use wires::Cause;
-use wires_hosts::DialFault;
+use wires_hosts::{DialFault, Unreached};
 
 /// Words of a coordinator.
 const COORDINATE: &[&str] = &[
@@ -60,6 +60,30 @@ const JOIN: &[&str] = &[
     "9",
 ];
 
+/// Words of a coordinator and a federate with a host's name.
+const COORDINATE_NAMED: &[&str] = &[
+    "coordinate",
+    "f",
+    "-",
+    "--listen",
+    "here.example:7000",
+    "--report",
+    "r",
+];
+
+const JOIN_NAMED: &[&str] = &[
+    "join",
+    "f",
+    "-",
+    "sink",
+    "--connect",
+    "here.example:7000",
+    "--report",
+    "r",
+    "--patience",
+    "5",
+];
+
 /// Why a coordinator can't listen at its address, and what is told.
 const LISTENERS: &[(ListenFault, &str)] = &[
     (
@@ -96,9 +120,14 @@ const FEDERATES: &[(Unfinished, &str)] = &[
          at the federates that it waits for\n",
     ),
     (
-        Unfinished::OutOfPatience(Some(DialFault::NotConnected)),
+        Unfinished::OutOfPatience(Some(DialFault::NotConnected(Unreached::Refused))),
         "help: nobody was heard for 5 s (--patience): nobody took the last connection to 10.0.0.9:7000; look whether \
          the coordinator listens there, and at the way to it\n",
+    ),
+    (
+        Unfinished::OutOfPatience(Some(DialFault::NotConnected(Unreached::NoWay))),
+        "help: nobody was heard for 5 s (--patience): nothing answered from 10.0.0.9:7000; look whether that machine is \
+         on, and at the way to it\n",
     ),
     (
         Unfinished::Stopped(Some(DialFault::NoAnswer)),
@@ -126,6 +155,36 @@ fn tells_why_nodes_end(rt: HostRuntime) {
         let fault = HostFault::NotFinished(*why);
         assert!(rt; is_node_told(rt.alloc(), JOIN, fault, text), "{text}");
     }
+}
+
+#[test]
+fn tells_of_hosts_that_may_have_no_address(rt: HostRuntime) {
+    let fault = HostFault::CannotListen(ListenFault::Other);
+    let text =
+        "help: the system gives no listener at here.example:7000: look whether the name has an address (getent hosts), \
+         and at the open files (ulimit -n)\n";
+    assert!(rt; is_node_told(rt.alloc(), COORDINATE_NAMED, fault, text));
+    let why = Unfinished::OutOfPatience(Some(DialFault::NotConnected(Unreached::NoAddress)));
+    let text =
+        "help: nobody was heard for 5 s (--patience): no address was found for here.example:7000; look whether the name \
+         has one (getent hosts)\n";
+    assert!(rt; is_node_told(rt.alloc(), JOIN_NAMED, HostFault::NotFinished(why), text));
+}
+
+#[test]
+fn tells_of_files_that_nodes_keep(rt: HostRuntime) {
+    let fault = HostFault::PartExists("r");
+    let text =
+        "help: another process has this log, as where two nodes are given one report: give each its own; or a node \
+         with --sync no was ended in the midst, as a line in the file says: then end the run, remove the file, and \
+         begin the run anew\n";
+    assert!(rt; is_node_told(rt.alloc(), COORDINATE, fault, text));
+    assert!(rt; is_node_told(rt.alloc(), JOIN, fault, text));
+    let text =
+        "help: where the file begins with fedrep 2, it is this node's log: leave out --sync no, and it goes on; else \
+         another process has this report, or a node with --sync no was ended in the midst: then end the run, remove \
+         the file, and begin the run anew\n";
+    assert!(rt; is_node_told(rt.alloc(), REPORTING, fault, text));
 }
 
 const FEDERATION: &str =

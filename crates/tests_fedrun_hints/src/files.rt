@@ -13,8 +13,8 @@ const MISTAKES: &[Told] = &[
     (
         "",
         "",
-        "fed.toml:1: wrong: 31 WrongShape stop: the key is missing here; a duration is a text of digits and ns, us, ms \
-         or s, as \"5 ms\", or \"0\"; it is below 2^62 ns\n",
+        "fed.toml:1: wrong: 31 WrongShape stop: the key is missing here; a duration is a text of digits, without a \
+         point, and ns, us, ms or s, as \"5 ms\", or \"0\"; it is below 2^62 ns, which are 146 years\n",
     ),
     (
         r#"stop = "0"
@@ -28,15 +28,15 @@ reaction = [{ triggers = ["startup"], body = ["m = 1"] }]
 "#,
         "",
         "fed.toml:4: wrong: 31 WrongShape perod: no key of this name stands here; a timer has name, offset and period\n\
-         fed.toml:8: wrong: 21 UnknownOperand b 1 1: no m, did you mean n? declare the state, port, timer or action, \
+         fed.toml:8: wrong: 21 UnknownOperand b 1 1: no m; declare the state, port, timer or action, \
          or correct the name: in. and has. are of what comes in, out. of an output, and schedule of an action that \
-         isn't physical\n",
+         isn't physical; a federate's names are its own\n",
     ),
     (
         "stop = 20 ms",
         "",
-        "fed.toml:1: wrong: 30 NotToml: unexpected key or value, expected newline, `#`; a text stands in quotes, \
-         entries and pairs are parted by commas, a key stands once in a table, and a number has at most 64 bits\n",
+        "fed.toml:1: wrong: 30 NotToml: unexpected key or value, expected newline, `#`; a duration stands in \
+         quotes, as \"10 ms\"\n",
     ),
     // inputs of a federation that is taken, and of one that isn't, which is told alone
     (
@@ -92,7 +92,7 @@ fn told_of_lines(alloc: Global, count: usize) -> Option<(usize, bool)> {
 
 const MORE: &str = "help: there is more: fedrun lint FED, or fedrun lint FED IN, prints it\n";
 
-fn line_count(text: &str) -> usize {
+pub(crate) fn line_count(text: &str) -> usize {
     text.as_bytes()
         .iter()
         .filter(|byte| **byte == b'\n')
@@ -136,8 +136,8 @@ fn tells_of_files_that_are_not_read(rt: HostRuntime) {
         "fed.toml:1: wrong: 36 OverLimit: the file has more than 1048576 bytes; write fewer\n";
     assert!(rt; is_told(&told_of_long_one(rt.alloc()), text));
     let text =
-        "help: there is no such file, as seen from this folder, or it can't be read; in the place of IN a - is for no \
-         inputs\n";
+        "help: there is no such file, as seen from this folder, or it is a folder, or can't be read; in the place of \
+         IN a - is for no inputs\n";
     assert!(rt; is_told(&told_of_none(rt.alloc(), "no.toml"), text));
     let text =
         "help: - is standard input: it is closed, can't be read, or was read for another of the words already; a file \

@@ -1,4 +1,5 @@
-//! Lines of a schedule that aren't taken.
+//! Schedules that aren't taken: what `lint` finds, the first ten of it.
+use crate::files::line_count;
 use crate::told::{is_told, told_of_command};
 use fedrun_commands::NodeFault;
 use fedrun_files::Files;
@@ -23,93 +24,51 @@ fn told_of_schedule(alloc: Global, schedule: &str) -> Option<String> {
     told_of_command(alloc, &["replay"], fault, &mut files)
 }
 
-/// Schedules, and what is told of them behind the name, the number and the fault of the line.
-const LINES: &[(&str, usize, &str)] = &[
-    (
-        "\nadvance nobody",
-        2,
-        "no federate nobody; there are source, sink",
-    ),
+/// Schedules, and what is told of them: what `lint` prints.
+const SCHEDULES: &[(&str, &str)] = &[
     (
         "round\nround\nannounce sik\n",
-        3,
-        "no federate sik, did you mean sink? there are source, sink",
+        "s:3: wrong: schedule line 3: no federate sik, did you mean sink? there are source, sink\n",
     ),
     (
-        "deliver up soruce 1",
-        1,
-        "no federate soruce, did you mean source? there are source, sink",
-    ),
-    (
-        "deliver up source 0",
-        1,
-        "write deliver up NAME K or deliver down NAME K, K from 1 to 4294967295 in digits",
-    ),
-    (
-        "deliver up source",
-        1,
-        "write deliver up NAME K or deliver down NAME K, K from 1 to 4294967295 in digits",
-    ),
-    (
-        "resend left sink",
-        1,
-        "write resend up NAME or resend down NAME",
-    ),
-    ("skip up", 1, "write skip up NAME or skip down NAME"),
-    ("forget", 1, "write forget NAME"),
-    ("round 3", 1, "write round, and nothing else"),
-    (
-        "announce  sink",
-        1,
-        "its words are parted by one space each, with none at the ends",
-    ),
-    (
-        "announce sink ",
-        1,
-        "its words are parted by one space each, with none at the ends",
-    ),
-    (
-        " # later",
-        1,
-        "its words are parted by one space each, with none at the ends",
-    ),
-    (
-        "round\r\nround",
-        1,
-        "it has a tab, a carriage return or a letter that isn't ASCII",
-    ),
-    (
-        "Round",
-        1,
-        "no step Round, did you mean round? there are announce, advance, deliver, resend, reconnect, forget, skip, \
-         round",
-    ),
-    (
-        "run",
-        1,
-        "no step run; there are announce, advance, deliver, resend, reconnect, forget, skip, round",
-    ),
-    (
-        "advance s\u{fc}nk",
-        1,
-        "it has a tab, a carriage return or a letter that isn't ASCII",
+        "deliver up source 0\n\nround 3\n",
+        "s:1: wrong: schedule line 1: write deliver up NAME K or deliver down NAME K, K from 1 to 4294967295 in digits\n\
+         s:3: wrong: schedule line 3: write round, and nothing else: each round has a line of its own\n",
     ),
 ];
 
-// Whether this is told of the line of this number.
-fn is_line_told(alloc: Global, schedule: &str, number: usize, why: &str) -> bool {
-    match format!(in alloc; "s:{number}: wrong: schedule line {number}: {why}\n") {
-        Ok(text) => is_told(&told_of_schedule(alloc, schedule), text.as_str()),
-        Err(_) => false,
+#[test]
+fn tells_what_is_wrong_with_lines(rt: HostRuntime) {
+    for (schedule, text) in SCHEDULES {
+        assert!(rt;
+            is_told(&told_of_schedule(rt.alloc(), schedule), text),
+            "{schedule}"
+        );
+    }
+}
+
+const MORE: &str = "help: there is more: fedrun lint FED IN SCHEDULE prints it\n";
+
+// How many lines are told of so many bad ones, and whether it is told that there is more.
+fn told_of_lines(alloc: Global, count: usize) -> Option<(usize, bool)> {
+    let lines = "rounds\n".repeat(alloc, count).ok()?;
+    let told = told_of_schedule(alloc, lines.as_str())?;
+    let told = told.as_str();
+    match told.strip_suffix(MORE) {
+        Some(findings) => Some((line_count(findings), true)),
+        None => Some((line_count(told), false)),
     }
 }
 
 #[test]
-fn tells_what_is_wrong_with_a_line(rt: HostRuntime) {
-    for (schedule, number, why) in LINES {
-        assert!(rt;
-            is_line_told(rt.alloc(), schedule, *number, why),
-            "{schedule}"
-        );
-    }
+fn tells_ten_lines_of_a_schedule(rt: HostRuntime) {
+    let told = [
+        told_of_lines(rt.alloc(), 10),
+        told_of_lines(rt.alloc(), 11),
+        told_of_lines(rt.alloc(), 101),
+    ];
+    assert_eq!(rt;
+        told,
+        [Some((10, false)), Some((10, true)), Some((10, true))]
+    );
 }

@@ -1,9 +1,10 @@
 //! What is told of a fault.
 use fedrun_commands::NodeFault;
 use fedrun_files::{Files, Sources, read_sources};
-use fedrun_hints::{NotedFiles, print_hint, print_node_hint};
+use fedrun_hints::{NotedFiles, print_hint, print_node_hint, print_stats_hint};
 use fedrun_hosts::HostFault;
 use fedrun_words::Fault;
+use files_saving::SaveFault;
 use std::alloc::Global;
 use tests_outcomes::{NamedFiles, given};
 
@@ -31,6 +32,17 @@ pub(crate) fn told_of_node<'a, F: Files + Drop>(
     let words = given(alloc, words)?;
     let mut out = Vec::new(alloc);
     print_node_hint(alloc, words.as_slice(), Fault::More(fault), files, &mut out);
+    String::from_utf8(out).ok()
+}
+
+/// The same where the file of `--stats` can't be had.
+pub(crate) fn told_of_stats<F: Files + Drop>(
+    alloc: Global,
+    why: SaveFault,
+    files: &NotedFiles<F>,
+) -> Option<String> {
+    let mut out = Vec::new(alloc);
+    print_stats_hint(why, files, &mut out);
     String::from_utf8(out).ok()
 }
 

@@ -2,6 +2,7 @@
 ghost use Rattle.std.specs.Prelude.{◌≡◌};
 ghost use Rattle.files_keeping.specs.Disk.{nothing_said};
 
+use fedrun_files::{FileFault, Files};
 use fedrun_logs::LogDisk;
 use files_keeping::{Device, KeepFault, KeptBy, Standing};
 use files_saving::{Disk, SaveFault};
@@ -264,6 +265,16 @@ impl<R: Wait> Disk for Process<'_, R> {
 
     fn remove(&mut self, name: &str) {
         self.files.remove(self.rt, name);
+    }
+}
+
+impl<R: Wait> Files for Process<'_, R> {
+    fn bytes(&mut self, name: &str, most: usize) -> Result<Vec<u8>, FileFault> {
+        match self.files.file(self.rt, name) {
+            Some(bytes) if bytes.len() > most => Err(FileFault::OverLimit),
+            Some(bytes) => Ok(bytes),
+            None => Err(FileFault::Unreadable),
+        }
     }
 }
 

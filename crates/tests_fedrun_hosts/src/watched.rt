@@ -4,7 +4,7 @@ use crate::runs::{COORDINATOR, SNK, SRC, connect};
 use crate::shared_files::{Process, SharedFiles};
 use crate::spoken::Spoken;
 use crossbeam_channel::{Receiver, Sender, unbounded};
-use fedrun_watch::{asks_for_log, show};
+use fedrun_watch::{View, show, view_asked};
 use std::alloc::Global;
 use std::net::{Net, TcpListener, TcpStream};
 use std::random::RandomSource;
@@ -13,10 +13,16 @@ use std::thread;
 use tests_samples::Machine;
 use wires_hosts::{Teller, Told};
 
+/// Lines alone are shown.
+const LINES: View = View {
+    lines: true,
+    rows: false,
+};
+
 // What is written of all that a node has told, which has ended.
 fn written<R: Wait>(rt: &R, alloc: Global, told: &Receiver<Told>) -> Option<String> {
     let mut lines = Vec::new(alloc);
-    show(rt, alloc, told, &mut lines);
+    show(rt, alloc, told, LINES, &mut lines);
     String::from_utf8(lines).ok()
 }
 
@@ -61,13 +67,19 @@ fn lines_of_run<R: Machine + Net<Stream = TcpStream, Listener = TcpListener> + R
     }
 }
 
-/// What is written behind the times, in three parts: of each part the lines come in any order.
+/// What is written behind the times, part by part: of each part the lines come in any order.
 const PARTS: &[&[&str]] = &[
+    &[" s: it begins, at "],
+    &[" s: its log has nothing so far: the run begins\n"],
+    &[" s: 0 of 2 connected, waits for src and 1 more\n"],
     &[
         " s: src is connected, from 127.0.0.1:",
         " s: snk is connected, from 127.0.0.1:",
+        " s: 1 of 2 connected, waits for s",
     ],
+    &[" s: 2 of 2 connected: all are there\n"],
     &[" s: the run is finished\n"],
+    &[" s: tells for up to 10.0 s that the run is finished: waits for src and 1 more\n"],
     &[
         " s: src has heard that the run is finished\n",
         " s: snk has heard that the run is finished\n",
@@ -127,18 +139,25 @@ fn lines_alone<R: Machine + Net<Stream = TcpStream, Listener = TcpListener> + Ra
     }
 }
 
-// Whether it is told of the first attempt at once, and last that it gives up.
+// Whether it is told when it begins, then of the first attempt, that it comes to nothing, that it gives up, and last
+// how far it is: what comes next it has said, and nobody has heard so.
 fn is_given_up<R: Machine + Net<Stream = TcpStream, Listener = TcpListener> + RandomSource>(
     rt: &R,
     more: &str,
 ) -> Option<bool> {
     let lines = lines_alone(rt, more)?;
-    let first = lines.as_str().lines().next()?;
+    let lines = lines.as_str();
+    let (front, attempts) = lines.split_once(" s: connects to 127.0.0.1:1\n")?;
+    let first = attempts.lines().next()?;
     Some(
-        first.ends_with(" s: no connection to 127.0.0.1:1: nobody answers")
-            && lines
-                .as_str()
-                .ends_with(" s: it gives up: nobody was heard for its patience\n"),
+        front.contains(" s: it begins, at ")
+            && first.ends_with(" s: no connection to 127.0.0.1:1: nobody listens there")
+            && lines.contains(
+                " s: it gives up: nobody who proved the secret was heard for its patience\n",
+            )
+            && lines.ends_with(
+                ", never heard, completed nothing, granted nothing, 1 signal not acknowledged\n",
+            ),
     )
 }
 
@@ -148,20 +167,33 @@ fn a_federate_is_watched_with_a_log_and_without(rt: HostRuntime) {
     assert_eq!(rt; given_up, [Some(true); 2]);
 }
 
-// Whether lines are asked for by this word, behind another one.
-fn are_asked_for(alloc: Global, word: &str) -> Option<bool> {
+// What is asked for by this word, behind another one.
+fn asked_for(alloc: Global, word: &str) -> Option<View> {
     let mut words = Vec::new(alloc);
     words.push(String::from_str(alloc, "join").ok()?).ok()?;
     words.push(String::from_str(alloc, word).ok()?).ok()?;
-    Some(asks_for_log(words.as_slice()))
+    Some(view_asked(words.as_slice()))
 }
 
 #[test]
-fn lines_are_asked_for(rt: HostRuntime) {
+fn what_is_shown_is_asked_for(rt: HostRuntime) {
+    let nothing = View {
+        lines: false,
+        rows: false,
+    };
+    let rows = View {
+        lines: false,
+        rows: true,
+    };
     let asked = [
-        are_asked_for(rt.alloc(), "--log"),
-        are_asked_for(rt.alloc(), "--logs"),
-        are_asked_for(rt.alloc(), "log"),
+        asked_for(rt.alloc(), "--log"),
+        asked_for(rt.alloc(), "--logs"),
+        asked_for(rt.alloc(), "--progress"),
+        asked_for(rt.alloc(), "log"),
     ];
-    assert_eq!(rt; asked, [Some(true), Some(false), Some(false)]);
+    assert_eq!(rt;
+        asked,
+        [LINES, nothing, rows, nothing].map(|view| Some(view))
+    );
+    assert!(rt; nothing.is_empty() && !rows.is_empty() && !LINES.is_empty());
 }

@@ -53,6 +53,33 @@ fn options_are_left_out(rt: HostRuntime) {
     assert_eq!(rt; asked, [Some(true); 2]);
 }
 
+/// What the file of what is measured isn't, of a node that has another report, and a secret.
+const UNMEASURED: &[&str] = &["-", "fed.toml", "inputs", "c.report", "secret"];
+
+// What it may be of these all the same, if there is one.
+fn first_measured(alloc: Global) -> Option<&'static str> {
+    for name in UNMEASURED {
+        let words = [
+            "coordinate fed.toml inputs --listen 10.0.0.1:7000 --report c.report --secret secret --stats",
+            *name,
+        ];
+        if are_read(alloc, &words) != Some(false) {
+            return Some(*name);
+        }
+    }
+    None
+}
+
+#[test]
+fn what_is_measured_has_a_file_of_its_own(rt: HostRuntime) {
+    let coordinate = HostRequest::Coordinate(plain());
+    let asked = [
+        ask_for(rt.alloc(), &[COORDINATE, "--stats s"], &coordinate),
+        Some(first_measured(rt.alloc()).is_none()),
+    ];
+    assert_eq!(rt; asked, [Some(true); 2]);
+}
+
 const NAMED: &str = "join fed.toml - src --connect my_host-1.example:7000 --report c.report";
 
 /// Where a node can't be: what is no address, no name of a host, or has no port.

@@ -12,8 +12,8 @@ pub(crate) fn joined(alloc: Global, front: &str, back: &str) -> Result<String, A
     Ok(text)
 }
 
-// Whether what is printed of a file of two parts begins so.
-fn is_told(alloc: Global, front: &str, back: &str, line: &str) -> bool {
+/// Whether what is printed of a file of two parts begins so.
+pub(crate) fn is_told(alloc: Global, front: &str, back: &str, line: &str) -> bool {
     match joined(alloc, front, back) {
         Ok(text) => are_first(alloc, text.as_str(), "", Some(line), None),
         Err(_) => false,
@@ -72,7 +72,35 @@ const FILES: &[Mistake] = &[
     ),
     (
         "# a comment\nstop = 20 ms",
-        "fed.toml:2: wrong: 30 NotToml: ",
+        "fed.toml:2: wrong: 30 NotToml: unexpected key or value, expected newline, `#`; a duration stands in quotes, ",
+    ),
+    (
+        "stop = \"0\"\n[[federate]]\nname = \"a\"\ntimers = [{ name = \"t\", period = 10 ms }]",
+        "fed.toml:4: wrong: 30 NotToml: missing comma between key-value pairs, expected `,` or `}`; a duration stands \
+         in quotes, ",
+    ),
+    (
+        "stop = \"0\",\n[[federate]]\nname = \"a\"",
+        "fed.toml:1: wrong: 30 NotToml: unexpected key or value, expected newline, `#`; no comma stands behind what a ",
+    ),
+    (
+        "stop = \"0\"\n[[federate]]\nname = 'a\"\n",
+        "fed.toml:3: wrong: 30 NotToml: invalid string; a text ends in the line in which it begins, with the quote ",
+    ),
+    (
+        "federate,action\nstop = \"0\"",
+        "fed.toml:1: wrong: 30 NotToml: key with no value, expected `=`; behind a key stands what it is set to, ",
+    ),
+    // characters that look like others
+    (
+        "stop = \"0\"\n[[federate]]\nname = \"a\"\nstate = [\n  \u{a0}{ name = \"n\", value = 0 }]",
+        "fed.toml:5: wrong: 30 NotToml: invalid value, expected a string, number, boolean, date-time, array or inline \
+         table; the line's character 3 is U+00A0, a space that doesn't break: ",
+    ),
+    (
+        "stop = \"0\"\n[[federate]]\nname = \"a\"\nstate = [{ name = \"n\", value = \u{2013}1 }]",
+        "fed.toml:4: wrong: 30 NotToml: invalid value, expected a string, number, boolean, date-time, array or inline \
+         table; the line's character 32 is U+2013, a dash of print: ",
     ),
     (
         "stop = \"0\"\n[[federate]]\nname = \"a\"\ninputs = [\"x\"\n\"w\"]",
@@ -91,6 +119,57 @@ const FILES: &[Mistake] = &[
     (
         "stop = \"0\"\n\"a\\\\b\" = 1\n[[federate]]\nname = \"a\"",
         "fed.toml:2: wrong: 31 WrongShape a",
+    ),
+    // several of what has one header, and keys without one
+    (
+        "stop = \"0\"\n[federate]\nname = \"a\"\n[federate]\nname = \"b\"",
+        "fed.toml:4: wrong: 30 NotToml: duplicate key; a header that stands several times has double brackets, as [[",
+    ),
+    (
+        "stop = \"0\"\n[[federate]]\nname = \"a\"\ninputs = [\"x\"\n[[federate]]\nname = \"b\"",
+        "fed.toml:5: wrong: 30 NotToml: missing comma between array elements, expected `,` or `]`; the [ of line 4 \
+         isn't closed; write ]",
+    ),
+    (
+        "stop = \"0\"\n[[federate]]\nname = \"a\"\nstate = [\n{ name = \"n\", value = 0 },\n[[federate.reaction]]",
+        "fed.toml:6: wrong: 30 NotToml: invalid value, expected a string, number, boolean, date-time, array or inline \
+         table; the [ of line 4 isn't closed; write ]",
+    ),
+    (
+        "stop = \u{201c}0\u{201d}",
+        "fed.toml:1: wrong: 30 NotToml: invalid value, expected a string, number, boolean, date-time, array or inline \
+         table; its quotes are those of print: ",
+    ),
+    (
+        "// a federation\nstop = \"0\"",
+        "fed.toml:1: wrong: 30 NotToml: invalid key, expected letters, numbers, `-`, `_` or a quoted key; a comment \
+         begins",
+    ),
+    // keys that stand elsewhere
+    (
+        "stop = \"0\"\n[[federate]]\nname = \"a\"\n[[reaction]]\ntriggers = [\"startup\"]",
+        "fed.toml:4: wrong: 31 WrongShape reaction: no key of this name stands here; write [[federate.reaction]], ",
+    ),
+    (
+        "stop = \"0\"\ninputs = [\"x\"]\n[[federate]]\nname = \"a\"",
+        "fed.toml:2: wrong: 31 WrongShape inputs: no key of this name stands here; it is one of a federate: ",
+    ),
+    // files of other kinds
+    (
+        "stop = \"0\"\n[[input]]\nfederate = \"a\"\n[[federate]]\nname = \"a\"",
+        "fed.toml:2: wrong: 31 WrongShape input: no key of this name stands here; it is one of recorded inputs, ",
+    ),
+    (
+        "stop = \"0\"\n[parameter]\ngain = 1\n[[federate]]\nname = \"a\"",
+        "fed.toml:2: wrong: 31 WrongShape parameter: no key of this name stands here; it is one of sources: ",
+    ),
+    (
+        "# a schedule\nannounce a\n",
+        "fed.toml:2: wrong: 30 NotToml: key with no value, expected `=`; it is a schedule: FED and IN are named ",
+    ),
+    (
+        "fedrep 1\n",
+        "fed.toml:1: wrong: 30 NotToml: key with no value, expected `=`; it is a report of a node, or its log: FED ",
     ),
 ];
 
@@ -226,6 +305,19 @@ const LINES: &[Mistake] = &[
     (
         "[[federate]]\nname = \"b\"\n[[federate.reaction]]\ntriggers = [\"t\"]",
         "fed.toml:7: wrong: 21 UnknownOperand b 1 0: ",
+    ),
+    // keys of the file behind a header
+    (
+        "connection = []",
+        "fed.toml:4: wrong: 31 WrongShape connection: no key of this name stands here; write it below a header [[",
+    ),
+    (
+        "stop = \"0\"",
+        "fed.toml:4: wrong: 31 WrongShape stop: no key of this name stands here; it stands above the first header, ",
+    ),
+    (
+        "timers = [\"t\"]",
+        "fed.toml:4: wrong: 31 WrongShape timers: write an array of tables, as [{ name = \"t\", period = \"5 ms\" }], ",
     ),
     // Two connections to one input, a timer, and what is beyond the limits.
     (

@@ -16,6 +16,16 @@ pub(crate) fn printed(
     federation: Option<&str>,
     inputs: Option<&str>,
 ) -> Option<String> {
+    printed_with(alloc, federation, inputs, &None)
+}
+
+/// The same, and of a schedule.
+pub(crate) fn printed_with(
+    alloc: Global,
+    federation: Option<&str>,
+    inputs: Option<&str>,
+    schedule: &Option<NamedFile<'_>>,
+) -> Option<String> {
     let federation = NamedFile {
         name: "fed.toml",
         bytes: bytes_of(federation),
@@ -25,7 +35,7 @@ pub(crate) fn printed(
         bytes: bytes_of(inputs),
     };
     let mut out = Vec::new(alloc);
-    print_report(alloc, &federation, &inputs, &mut out).ok()?;
+    print_report(alloc, &federation, &inputs, schedule, &mut out).ok()?;
     String::from_utf8(out).ok()
 }
 
@@ -295,7 +305,7 @@ reaction = [{ triggers = ["startup"], body = ["n = n+1"] }]
 
 const MISTYPED_LINES: &str = "\
 fed.toml:4: wrong: 31 WrongShape perod: no key of this name stands here; a timer has name, offset and period
-fed.toml:7: wrong: 20 BadLine b 1 1: write X = A, X = A OP B, out.P = A or schedule C D A, each perhaps behind when A :, with spaces about = and OP, one OP a line, which is + - * min max < or ==
+fed.toml:7: wrong: 20 BadLine b 1 1: \"n = n+1\": n+1 stands without spaces: = and operators have one on either side, as n = n + 1
 ";
 
 // Whether this is printed of a federation file, and nothing else.

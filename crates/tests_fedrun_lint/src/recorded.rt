@@ -48,6 +48,27 @@ const SHAPES: &[Mistake] = &[
         "[[input]]\nfederate = \"f\"\naction = \"p\"\ntime = \"0\"\nmicro = -1\nvalue = 1",
         "in.toml:5: wrong: 31 WrongShape micro: ",
     ),
+    // one table, keys without a header, keys of a federation file
+    (
+        "[input]\nfederate = \"f\"\naction = \"p\"\ntime = \"0\"\nvalue = 1",
+        "in.toml:1: wrong: 31 WrongShape input: [input] is one table, [[input]] one of several; ",
+    ),
+    (
+        "action = \"p\"",
+        "in.toml:1: wrong: 31 WrongShape action: no key of this name stands here; it is one of an input: ",
+    ),
+    (
+        "stop = \"0\"",
+        "in.toml:1: wrong: 31 WrongShape stop: no key of this name stands here; it is one of a federation file, ",
+    ),
+    (
+        "[[input]]\naction = \"f.p\"\ntime = \"0\"\nvalue = 1",
+        "in.toml:1: wrong: 31 WrongShape federate: the key is missing here; write the name of a federate in quotes, ",
+    ),
+    (
+        "[[input]]\nfederate = \"f\"\nfederate = \"f\"",
+        "in.toml:3: wrong: 30 NotToml: duplicate key; a key stands once in a table: leave one out, or begin another ",
+    ),
     (
         "input = [\n{ value = 9223372036854775808 }]",
         "in.toml:2: wrong: 30 NotToml: ",
@@ -62,7 +83,7 @@ const RECORDED: &[Mistake] = &[
     ),
     (
         "[[input]]\nfederate = \"g\"\naction = \"p\"\ntime = \"0\"\nvalue = 1",
-        "in.toml:3: wrong: 34 UnknownAction: ",
+        "in.toml:2: wrong: 34 UnknownAction: no g; ",
     ),
     (
         r#"

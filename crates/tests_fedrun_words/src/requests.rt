@@ -3,7 +3,7 @@ use fedrun_words::{
     AboutRequest, AboutTopic, AuditRequest, CheckRequest, DrawFederationRequest,
     DrawScheduleRequest, FramesRequest, LintRequest, RecordRequest, ReplayRequest, Request,
     RunRequest, Shell, TraceRequest, WholeRequest, WordsFault, all_commands, asks_for_help,
-    asks_for_version, read_words,
+    asks_for_version, read_words, stats_file,
 };
 use files_text::RowFormat;
 use std::alloc::Global;
@@ -191,6 +191,12 @@ const RUNS: &[(&[&str], u32, u8, RowFormat)] = &[
     ),
     (&["run", "f", "-", "--csv"], 1_000_000, 2, RowFormat::Csv),
     (
+        &["run", "f", "-", "--stats", "s"],
+        1_000_000,
+        2,
+        RowFormat::Text,
+    ),
+    (
         &["run", "--turns", "9", "--csv", "--frames=1", "f", "-"],
         9,
         1,
@@ -234,7 +240,7 @@ fn reads_record(rt: HostRuntime) {
 }
 
 // Words of `frames`, `trace`, `draw` and `lint`, and the request that they are.
-fn looked_at() -> [(&'static [&'static str], Request<'static>); 11] {
+fn looked_at() -> [(&'static [&'static str], Request<'static>); 12] {
     [
         (
             &["frames", "f", "-", "s"],
@@ -324,6 +330,7 @@ fn looked_at() -> [(&'static [&'static str], Request<'static>); 11] {
             Request::Lint(LintRequest {
                 federation: "f",
                 inputs: "-",
+                schedule: None,
             }),
         ),
         (
@@ -331,6 +338,15 @@ fn looked_at() -> [(&'static [&'static str], Request<'static>); 11] {
             Request::Lint(LintRequest {
                 federation: "f",
                 inputs: "i",
+                schedule: None,
+            }),
+        ),
+        (
+            &["lint", "f", "-", "s"],
+            Request::Lint(LintRequest {
+                federation: "f",
+                inputs: "-",
+                schedule: Some("s"),
             }),
         ),
     ]
@@ -402,6 +418,9 @@ const REFUSED: &[&[&str]] = &[
     &["run", "f", "-", "--frames", "257"],
     &["run", "f", "-", "--frames", "+1"],
     &["run", "f", "-", "--frames", "1", "--frames", "1"],
+];
+
+const REFUSED_REPLAYS: &[&[&str]] = &[
     &["replay", "f", "-"],
     &["replay", "f", "-", "s", "t"],
     &["replay", "f", "-", "s", "--until-stuck"],
@@ -425,6 +444,9 @@ const REFUSED: &[&[&str]] = &[
     &["replay", "f", "-", "s", "--csv", "--csv"],
     &["--csv", "replay", "f", "-", "s"],
     &["--until-stuck", "1", "replay", "f", "-", "s"],
+];
+
+const REFUSED_RUNS: &[&[&str]] = &[
     &["run"],
     &["run", "f"],
     &["run", "f", "-", "--turns"],
@@ -434,12 +456,21 @@ const REFUSED: &[&[&str]] = &[
     &["run", "f", "-", "--until-stuck", "1"],
     &["run", "f", "--csv", "-", "--csv"],
     &["run", "f", "-", "--turns", "--csv"],
+    &["run", "f", "-", "--stats"],
+    &["run", "f", "-", "--stats", ""],
+    &["run", "f", "-", "--stats", "-"],
+    &["run", "f", "-", "--stats", "f"],
+    &["run", "f", "i", "--stats=i"],
+    &["record", "f", "-", "--stats", "s"],
     &["record", "f"],
     &["record", "f", "-", "s"],
     &["record", "f", "-", "--turns", "x"],
     &["record", "f", "-", "--until-stuck", "1"],
     &["record", "f", "-", "--csv"],
     &["Record", "f", "-"],
+];
+
+const REFUSED_OTHERS: &[&[&str]] = &[
     &["frames", "f", "-"],
     &["frames", "f", "-", "s", "--until-stuck", "x"],
     &["frames", "f", "-", "s", "--csv"],
@@ -457,7 +488,7 @@ const REFUSED: &[&[&str]] = &[
     &["draw", "f", "--reactions", "--until-stuck", "1"],
     &["draw", "f", "--reactions", "--reactions"],
     &["lint"],
-    &["lint", "f", "-", "s"],
+    &["lint", "f", "-", "s", "t"],
     &["lint", "f", "--csv"],
     &["lint", "f", "--source"],
     &["expand", "s"],
@@ -584,5 +615,80 @@ fn tells_words_that_ask_for_help_or_the_version(rt: HostRuntime) {
 fn refuses_words_that_are_no_command(rt: HostRuntime) {
     for words in REFUSED {
         assert!(rt; ask(rt.alloc(), words, Err(WordsFault::Usage)), "{words:?}");
+    }
+}
+
+#[test]
+fn refuses_words_that_are_no_replay(rt: HostRuntime) {
+    for words in REFUSED_REPLAYS {
+        assert!(rt; ask(rt.alloc(), words, Err(WordsFault::Usage)), "{words:?}");
+    }
+}
+
+#[test]
+fn refuses_words_that_are_no_run(rt: HostRuntime) {
+    for words in REFUSED_RUNS {
+        assert!(rt; ask(rt.alloc(), words, Err(WordsFault::Usage)), "{words:?}");
+    }
+}
+
+#[test]
+fn refuses_words_that_are_no_other_command(rt: HostRuntime) {
+    for words in REFUSED_OTHERS {
+        assert!(rt; ask(rt.alloc(), words, Err(WordsFault::Usage)), "{words:?}");
+    }
+}
+
+/// Words, and the file in which it is to be saved what is measured, where they ask for that.
+const MEASURED: &[(&[&str], Option<&str>)] = &[
+    (&["run", "f", "-", "--stats", "s"], Some("s")),
+    (&["run", "--stats=s", "f", "-"], Some("s")),
+    (&["run", "f", "-"], None),
+    (&["run", "f", "-", "--stats", "-"], None),
+    (&["run", "f", "--", "--stats"], None),
+    (&["run", "--stats", "s"], None),
+    (&["whole", "f", "-", "4"], None),
+    (
+        &[
+            "coordinate",
+            "f",
+            "-",
+            "--listen",
+            "127.0.0.1:0",
+            "--report",
+            "c",
+            "--stats",
+            "s",
+        ],
+        Some("s"),
+    ),
+    (
+        &[
+            "join",
+            "f",
+            "-",
+            "src",
+            "--connect",
+            "127.0.0.1:7000",
+            "--report",
+            "r",
+            "--stats=s",
+        ],
+        Some("s"),
+    ),
+];
+
+// Whether these words ask for that.
+fn is_measured(alloc: Global, words: &[&str], file: Option<&str>) -> bool {
+    match given(alloc, words) {
+        Some(words) => stats_file(alloc, words.as_slice()) == file,
+        None => false,
+    }
+}
+
+#[test]
+fn says_where_it_is_saved_what_is_measured(rt: HostRuntime) {
+    for (words, file) in MEASURED {
+        assert!(rt; is_measured(rt.alloc(), words, *file), "{words:?}");
     }
 }

@@ -13,12 +13,13 @@ use wires::{
     Endpoint, FederateLines, FederationLines, Gathered, NetRuntime, NoAcceptor, Nodes as Started,
     Runtime, Terms, channels, run,
 };
+use wires_traffic::RunCounts;
 use wires_transports::tcp::connection;
 use wires_transports::{
     Accepted, Connection, Cut, Dial, MemoryCut, MemoryTransport, TcpCut, TcpTransport, Transport,
     pair,
 };
-use wires_workers::Gate;
+use wires_workers::{Gate, NoGate};
 
 /// As many turns as each run needs that comes to its end.
 pub const AMPLE: Terms = Terms {
@@ -339,4 +340,39 @@ pub fn ran_over_tcp<'a, R: NetRuntime, G: Gate + Sync, P: Tap + Sync>(
     tap: &P,
 ) -> Option<Gathered<Coordinator<'a>, Federate<'a>>> {
     ran(rt, alloc, federation, setting, &OverTcp { net: rt, tap })
+}
+
+/// What the workers counted in a run over memory, of all nodes together; None where there is none.
+pub fn counts_in_memory<R: Runtime, P: Tap + Sync>(
+    rt: &R,
+    alloc: Global,
+    federation: &Federation,
+    terms: Terms,
+    tap: &P,
+) -> Option<RunCounts> {
+    let count = federation.plan().federate_count();
+    let endings = Endings::new(alloc, count)?;
+    let (senders, arrivals) = channels(alloc, count).ok()?;
+    let pairing = InMemory { tap };
+    let lines = lines(alloc, senders, &pairing, &endings, terms)?;
+    counted(rt, alloc, federation, lines, arrivals, terms)
+}
+
+// The same where federates are connected so, and their connections come there.
+fn counted<R: Runtime, D: Dial<T, C> + Drop + Send, T: Transport + Send, C: Cut + Send + Sync>(
+    rt: &R,
+    alloc: Global,
+    federation: &Federation,
+    lines: Vec<FederateLines<D>>,
+    arrivals: Vec<Receiver<Accepted<T, C>>>,
+    terms: Terms,
+) -> Option<RunCounts> {
+    let federates = endpoints(alloc, lines, arrivals)?;
+    let nodes = nodes_of(alloc, federation)?;
+    let lines = FederationLines {
+        federates,
+        acceptor: NoAcceptor,
+    };
+    let left = run(rt, alloc, &nodes, lines, &NoGate, terms).ok()?;
+    Some(left.counts())
 }

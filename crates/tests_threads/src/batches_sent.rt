@@ -9,7 +9,7 @@ use wires::Terms;
 use wires_workers::NoGate;
 
 /// One federate that hears from nobody: it is granted all of its 201 ticks at once, and so makes many turns in a row.
-const MANY_TICKS: &str = r#"stop = "200 ms"
+pub(crate) const MANY_TICKS: &str = r#"stop = "200 ms"
 [[federate]]
 name = "one"
 outputs = ["y"]
@@ -30,14 +30,19 @@ fn first_frame(bytes: &[u8]) -> Option<(u8, &[u8])> {
     Some((*bytes.get(4)?, bytes.get(size..)?))
 }
 
-// How many of these frames are Batches.
-fn batches(bytes: &[u8]) -> u64 {
+/// How many of these frames are Batches.
+pub(crate) fn batches(bytes: &[u8]) -> u64 {
+    of_kind(BATCH, bytes)
+}
+
+/// How many of these frames are of a kind, by the first byte of its body.
+pub(crate) fn of_kind(wanted: u8, bytes: &[u8]) -> u64 {
     let mut count: u64 = 0;
     let mut left = bytes;
     for _ in bytes {
         match first_frame(left) {
             Some((kind, behind)) => {
-                if kind == BATCH {
+                if kind == wanted {
                     count = count.saturating_add(1);
                 }
                 left = behind;

@@ -2,13 +2,16 @@
 use crate::entrance::{
     Entrance, Host, LONG_MS, Machine, greeting_at, host_of, host_to, listener_of, visited,
 };
-use crate::process::{Meeting, Process, is_told, meet, met};
+use crate::process::{Meeting, Process, failed, is_told, meet, met};
 use crate::simulated::{Counting, EndsAt, Meanwhile, Nothing, Simulated, attempted_until};
 use std::io::Read;
 use std::net::{Net, TcpListener, TcpStream};
 use std::time::Duration;
-use wires_hosts::{DialFault, FederateHost, Happening, HostDial};
+use wires_hosts::{DialFault, FederateHost, HostDial, Unreached};
 use wires_transports::{Dial, Transport};
+
+/// What an attempt comes to where nobody listens.
+const NOBODY: DialFault = DialFault::NotConnected(Unreached::Refused);
 
 // A federate's process that connects to where nobody listens.
 fn host_to_nobody<R: Net<Stream = TcpStream, Listener = TcpListener>>(
@@ -57,13 +60,8 @@ fn attempted_by<R: Machine + Net<Stream = TcpStream, Listener = TcpListener>>(
 
 // Whether it is told of the first, second, fourth and eighth of attempts that nobody answers, and of no other.
 fn are_few_told<R: Machine>(rt: &R, process: &Process, host: &FederateHost) -> bool {
-    [1, 2, 4, 8].iter().all(|count| {
-        is_told(
-            rt,
-            &process.told,
-            Happening::Failed(host.address, DialFault::NotConnected, *count),
-        )
-    }) && process.told.try_recv(rt).is_err()
+    [1, 2, 4, 8].iter().all(|count| { is_told(rt, &process.told, failed(host, NOBODY, *count)) })
+        && process.told.try_recv(rt).is_err()
 }
 
 // Makes these attempts, and notes when each of them was over. One that comes to something else is never over.
@@ -80,7 +78,7 @@ fn attempt_all<R: Machine, D: Dial<T, C>, T: Transport, C: Drop, M: Meanwhile>(
         }
         let is_in_vain = dial.dial(rt, rt.alloc()).is_none();
         let fault = process.heard.last_fault();
-        if is_in_vain && fault == Some(DialFault::NotConnected) && !process.ending.is_set() {
+        if is_in_vain && fault == Some(NOBODY) && !process.ending.is_set() {
             *time = machine.time();
         }
     }
@@ -120,7 +118,7 @@ fn is_forgotten<R: Host + Net<Stream = TcpStream, Listener = TcpListener>>(
     let process = entrance.process;
     let alloc = entrance.alloc;
     let nobody = host_to_nobody(rt)?;
-    let has_failed = process.is_refused(rt, alloc, nobody, DialFault::NotConnected, false);
+    let has_failed = process.is_refused(rt, alloc, nobody, NOBODY, false);
     let host = host_of(entrance.address, 0)?;
     let is_connected = !process.is_in_vain(rt, alloc, host);
     Some(has_failed && is_connected && process.heard.last_fault().is_none())

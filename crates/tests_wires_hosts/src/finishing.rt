@@ -135,8 +135,10 @@ fn hears_nothing<R: Host + Net<Stream = TcpStream, Listener = TcpListener>>(
     let no_more = gets_no_more(rt, entrance);
     let is_in_vain = process.is_in_vain(rt, entrance.alloc, host);
     let fault = process.heard.last_fault();
-    let is_untold = matches!(fault, Some(DialFault::NotConnected | DialFault::NoAnswer))
-        && !process.ending.is_set();
+    let is_untold = matches!(
+        fault,
+        Some(DialFault::NotConnected(_) | DialFault::NoAnswer)
+    ) && !process.ending.is_set();
     Some(waiting.is_some() && no_more && is_in_vain && is_untold)
 }
 

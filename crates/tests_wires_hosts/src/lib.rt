@@ -9,6 +9,8 @@ mod attempts;
 #[cfg(test)]
 mod barred;
 #[cfg(test)]
+mod choices;
+#[cfg(test)]
 mod entrance;
 #[cfg(test)]
 mod finishing;
@@ -28,6 +30,8 @@ mod silences;
 mod simulated;
 #[cfg(test)]
 mod sources;
+#[cfg(test)]
+mod stillness;
 #[cfg(test)]
 mod strangers;
 #[cfg(test)]

@@ -5,7 +5,7 @@ use std::io::ErrorKind;
 use std::net::{Net, SocketAddr, TcpListener, TcpStream};
 use std::sync::atomic::{AtomicUsize, Ordering};
 use std::time::Duration;
-use wires_hosts::{HostAddress, listen_at};
+use wires_hosts::{HostAddress, Missed, Unreached, listen_at};
 
 /// A network in which one host alone has a name, and two addresses. It counts how often a name is looked up.
 #[derive(Drop)]
@@ -43,9 +43,21 @@ impl<'a, R: Net<Stream = TcpStream, Listener = TcpListener>> Net for Names<'a, R
     }
 }
 
-// Whether a host is found by its name twice, at the second of its addresses, another name and a port where nobody
-// listens aren't, an address is, and how often a name was looked up.
-fn found<R: Net<Stream = TcpStream, Listener = TcpListener>>(rt: &R) -> Option<([bool; 5], usize)> {
+/// What a host that is looked for twice by its name, by another name, by its address, and by its name once nobody
+/// listens there, isn't found for.
+const FOUND: [Option<Unreached>; 5] = [
+    None,
+    None,
+    Some(Unreached::NoAddress),
+    None,
+    Some(Unreached::Refused),
+];
+
+// Why each isn't found, whether the address that was tried last is said of the last one, and how often a name was looked
+// up. A name is found at the second of its addresses.
+fn found<R: Net<Stream = TcpStream, Listener = TcpListener>>(
+    rt: &R,
+) -> Option<([Option<Unreached>; 5], bool, usize)> {
     let net = Names {
         rt,
         lookups: AtomicUsize::new(0),
@@ -54,22 +66,26 @@ fn found<R: Net<Stream = TcpStream, Listener = TcpListener>>(rt: &R) -> Option<(
     let at = listener.local_addr().ok()?;
     let there = HostAddress::named("coordinator", at.port())?;
     let elsewhere = HostAddress::named("other", at.port())?;
-    let are_found = [
-        there.connect(&net).is_ok(),
-        there.connect(&net).is_ok(),
-        elsewhere.connect(&net).is_ok(),
-        HostAddress::At(at).connect(&net).is_ok(),
-        {
-            drop(listener);
-            there.connect(&net).is_ok()
-        },
+    let found = [
+        there.connect(&net).err(),
+        there.connect(&net).err(),
+        elsewhere.connect(&net).err(),
+        HostAddress::At(at).connect(&net).err(),
     ];
-    Some((are_found, net.lookups.load(Ordering::SeqCst)))
+    drop(listener);
+    let last = there.connect(&net).err();
+    let is_last_tried = last.and_then(|missed| missed.tried) == Some(at);
+    let whys = [found[0], found[1], found[2], found[3], last].map(|missed| why_of(missed));
+    Some((whys, is_last_tried, net.lookups.load(Ordering::SeqCst)))
+}
+
+fn why_of(missed: Option<Missed>) -> Option<Unreached> {
+    missed.map(|missed| missed.why)
 }
 
 #[test]
 fn a_name_is_looked_up_for_each_attempt(rt: HostRuntime) {
-    assert_eq!(rt; found(&rt), Some(([true, true, false, true, false], 4)));
+    assert_eq!(rt; found(&rt), Some((FOUND, true, 4)));
 }
 
 // Where one listens by a host's name.

@@ -8,8 +8,8 @@ use std::sync::atomic::{AtomicBool, AtomicU64, Ordering};
 use std::time::{Clock, Duration};
 use std::{io, thread};
 use wires_hosts::{
-    Barrier, DialFault, FederateHost, Happened, Happening, Heard, HostDial, LastConnection,
-    Patience, Teller, Told, Unkept,
+    Barrier, DialFault, Failure, FederateHost, Happened, Happening, Heard, HostDial,
+    LastConnection, Patience, Teller, Told, Unkept,
 };
 use wires_transports::{Dial, Ending};
 
@@ -83,27 +83,50 @@ impl Clock for Still {
     }
 }
 
-/// What is told next, once it is.
+/// How much is told at most beside what happens.
+const MOST_ASIDE: usize = 100;
+
+// Whether this says only who is awaited, or what is about to be done.
+fn is_aside(what: Happening) -> bool {
+    matches!(
+        what,
+        Happening::Awaits(_) | Happening::Tells(_, _) | Happening::Connects(_)
+    )
+}
+
+/// What happens next, as it is told, once it is.
 pub fn next_told<R: Host>(rt: &R, told: &Receiver<Told>) -> Option<Happened> {
-    let next = told.recv_timeout(rt, Duration::from_millis(LONG_MS)).ok()?;
-    happened(&next)
+    for _ in 0..MOST_ASIDE {
+        let next = told.recv_timeout(rt, Duration::from_millis(LONG_MS)).ok()?;
+        let came = happened(&next)?;
+        if !is_aside(came.what) {
+            return Some(came);
+        }
+    }
+    None
 }
 
-/// What is told next, if it is by now.
+/// What happens next, as it is told, if it is by now.
 pub fn told_by_now<R: Host>(rt: &R, told: &Receiver<Told>) -> Option<Happening> {
-    let next = told.try_recv(rt).ok()?;
-    Some(happened(&next)?.what)
+    for _ in 0..MOST_ASIDE {
+        let next = told.try_recv(rt).ok()?;
+        let came = happened(&next)?;
+        if !is_aside(came.what) {
+            return Some(came.what);
+        }
+    }
+    None
 }
 
-// What happened, by what is told that is no names.
+// What happened, by what is told that is no names and no look.
 fn happened(told: &Told) -> Option<Happened> {
     match told {
         Told::Happened(happened) => Some(*happened),
-        Told::Federates(_) => None,
+        Told::Federates(_) | Told::Stands(_) | Told::Looked(_) | Told::Wipe(_) => None,
     }
 }
 
-/// Whether it is told next that this happened, once something is.
+/// Whether it is told next that this happened, once something that happens is.
 pub fn is_told<R: Host>(rt: &R, told: &Receiver<Told>, what: Happening) -> bool {
     match next_told(rt, told) {
         Some(happened) => happened.what == what,
@@ -196,13 +219,23 @@ impl Process {
     }
 }
 
+/// That so many attempts came to nothing for this, which went to an address.
+pub fn failed(host: &FederateHost, fault: DialFault, times: u64) -> Happening {
+    Happening::Failed(Failure {
+        address: host.address,
+        tried: None,
+        fault,
+        times,
+    })
+}
+
 // What is told where the first attempt comes to nothing for this: nothing where it is broken off, since the run is to
 // end.
 fn told_of(host: &FederateHost, fault: DialFault, ends: bool) -> Option<Happening> {
     match fault {
         DialFault::Finished => Some(Happening::Finished),
         DialFault::NoAnswer if ends => None,
-        _ => Some(Happening::Failed(host.address, fault, 1)),
+        _ => Some(failed(host, fault, 1)),
     }
 }
 

@@ -5,7 +5,7 @@ use crate::entrance::{
 };
 use crate::finishing::all_hear;
 use crate::process::{Process, is_told, next_told};
-use crossbeam_channel::TryRecvError;
+use crossbeam_channel::{Receiver, TryRecvError};
 use std::alloc::Global;
 use std::io::Write;
 use std::net::{Net, SocketAddr, TcpListener, TcpStream};
@@ -13,7 +13,10 @@ use std::time::Duration;
 use wires::Work;
 use wires_greeting::Greeting;
 use wires_hosts::teller::MOST_WAITING;
-use wires_hosts::{GivenUp, Happening, HostAddress, HostDial, NotLetIn, Teller};
+use wires_hosts::{
+    Awaited, Disconnection, GivenUp, Happening, HostAddress, HostDial, Loss, NotLetIn, Replaced,
+    Teller, Told,
+};
 use wires_transports::Dial;
 
 // A connection that federate 0 makes by hand and on which it is let in, and its address.
@@ -24,6 +27,41 @@ fn let_in_by_hand<R: Net<Stream = TcpStream, Listener = TcpListener>>(
     let (stream, _) = said(rt, entrance.address, 0, &HELLO)?;
     let address = stream.local_addr().ok()?;
     Some((stream, address))
+}
+
+// A connection of federate 0 that takes another one's place, the first to do so.
+fn replacement(now: SocketAddr, before: SocketAddr) -> Replaced {
+    Replaced {
+        federate: 0,
+        now,
+        before,
+        quiet_ms: 0,
+        times: 1,
+        may_be_two: false,
+    }
+}
+
+// The end of federate 0's connection from there, in a run of it and two that never came.
+fn loss(address: SocketAddr) -> Loss {
+    Loss {
+        federate: 0,
+        address,
+        quiet_ms: 0,
+        connected: Awaited {
+            present: 0,
+            federates: 3,
+            first: Some(0),
+            more: 2,
+        },
+    }
+}
+
+// Whether it is told next that federate 0 has lost its connection from there.
+fn is_lost<R: Host>(rt: &R, told: &Receiver<Told>, from: SocketAddr) -> bool {
+    match next_told(rt, told) {
+        Some(happened) => happened.what == Happening::Lost(loss(from)),
+        None => false,
+    }
 }
 
 // Federate 0 is let in; another connection of it takes the place of the first, which is read to its end behind that;
@@ -41,9 +79,8 @@ fn are_comings_told<R: Host + Net<Stream = TcpStream, Listener = TcpListener>>(
     drop(second_stream);
     let is_second_ended = is_ended(rt, &mut second_came.connection.incoming);
     let are_told = is_told(rt, told, Happening::LetIn(0, first))
-        && is_told(rt, told, Happening::Lost(0, first))
-        && is_told(rt, told, Happening::LetIn(0, second))
-        && is_told(rt, told, Happening::Lost(0, second));
+        && is_told(rt, told, Happening::Replaced(replacement(second, first)))
+        && is_lost(rt, told, second);
     // That the second has ended was told before another one comes.
     let (_third_stream, third) = let_in_by_hand(rt, entrance)?;
     let is_third = is_told(rt, told, Happening::LetIn(0, third));
@@ -79,6 +116,9 @@ const STRANGERS: &[(Stranger, NotLetIn, u64)] = &[
     (Stranger::Unproved(&[0; 32]), NotLetIn::NotProved, 1),
     (Stranger::Unheard(&[]), NotLetIn::NoHello, 1),
     (Stranger::Unheard(&[0; 20]), NotLetIn::NoHello, 2),
+    // Rows that others came between go on.
+    (Stranger::Silent, NotLetIn::NoGreeting, 2),
+    (Stranger::Noise, NotLetIn::OtherProtocol, 2),
 ];
 
 // What it says; the address of its connection, which has ended then.
@@ -169,6 +209,24 @@ fn tells_ever_fewer_of_those_who_arent_let_in(rt: HostRuntime) {
     assert_eq!(rt; visited(&rt, &rt, are_few_told), Some(true));
 }
 
+// Whether it is told next that a connection to there has ended that wasn't read to its end, the first or the second
+// that stood for a moment.
+fn is_end_told<R: Host>(rt: &R, told: &Receiver<Told>, at: SocketAddr) -> bool {
+    match next_told(rt, told) {
+        Some(happened) => [1, 2].iter().any(|times| {
+            happened.what
+                == Happening::Disconnected(
+                    HostAddress::At(at),
+                    Disconnection {
+                        is_closed: false,
+                        times: *times,
+                    },
+                )
+        }),
+        None => false,
+    }
+}
+
 // A federate connects, and connects anew where its connection has ended; then it hears that the run is finished. Whether
 // it is told so.
 fn is_own_life_told<R: Host + Net<Stream = TcpStream, Listener = TcpListener>>(
@@ -189,19 +247,13 @@ fn is_own_life_told<R: Host + Net<Stream = TcpStream, Listener = TcpListener>>(
     let is_connected_again = dial.dial(rt, entrance.alloc).is_some();
     entrance.coordinator.ending.set();
     let is_in_vain = dial.dial(rt, entrance.alloc).is_none();
-    let are_told = is_told(rt, &process.told, Happening::Connected(HostAddress::At(at)))
-        && is_told(
-            rt,
-            &process.told,
-            Happening::Disconnected(HostAddress::At(at)),
-        )
-        && is_told(rt, &process.told, Happening::Connected(HostAddress::At(at)))
-        && is_told(
-            rt,
-            &process.told,
-            Happening::Disconnected(HostAddress::At(at)),
-        )
-        && is_told(rt, &process.told, Happening::Finished);
+    let told = &process.told;
+    let connected = Happening::Connected(HostAddress::At(at), None);
+    let are_told = is_told(rt, told, connected)
+        && is_end_told(rt, told, at)
+        && is_told(rt, told, connected)
+        && is_end_told(rt, told, at)
+        && is_told(rt, told, Happening::Finished);
     Some(is_connected && is_connected_again && is_in_vain && are_told && all_hear(rt, entrance)?)
 }
 

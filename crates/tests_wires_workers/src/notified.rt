@@ -104,7 +104,7 @@ fn sent_of<R: Threads + Wait + Sync>(
         queue.catch_up(rt);
     }
     let machine = Standing::new(rt);
-    let ((), told) = thread::join(
+    let (_, told) = thread::join(
         rt,
         || write(&machine, alloc, &queue, &seen.ending, 2),
         || tell_meanwhile(rt, alloc, &machine, &queue, seen, news),

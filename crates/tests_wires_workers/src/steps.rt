@@ -33,7 +33,9 @@ fn make<R: Wait>(rt: &R, queue: &Queue<'_>, step: Step) {
         Step::Write => {
             queue.send_all(rt, true);
         }
-        Step::End => queue.finish(rt),
+        Step::End => {
+            queue.finish(rt);
+        }
     }
 }
 

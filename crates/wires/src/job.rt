@@ -1,5 +1,6 @@
 //! What each thread of a node does, and what it leaves.
 ghost use Rattle.std.specs.Prelude.{◌≡◌, Some, false};
+ghost use Rattle.wires_traffic.specs.Sums.{no_counts};
 
 use crossbeam_channel::Receiver;
 use desk::Share;
@@ -7,9 +8,10 @@ use node::Node;
 use std::alloc::Global;
 use std::sync::Wait;
 use std::time::Clock;
+use wires_traffic::{Counts, Traffic};
 use wires_transports::{Accepted, Acceptor, Cut, Dial, Ending, Transport};
 use wires_workers::{
-    Context, Dialed, Gate, WakeUps, WriterQueue, read, read_dialed, runner, write,
+    Context, Dialed, Gate, Reading, WakeUps, WriterQueue, read, read_dialed, runner, write,
 };
 
 /// What one thread of a node does.
@@ -45,6 +47,8 @@ pub struct WorkerResult {
     pub share: Option<Share>,
     /// Whether it ended since the node's peer speaks of another history.
     pub shows_other_history: bool,
+    /// What it counted. Nothing rests on it.
+    pub counts: Counts,
 }
 
 impl WorkerResult {
@@ -53,26 +57,57 @@ impl WorkerResult {
         WorkerResult {
             share: None,
             shows_other_history: false,
+            counts: Counts::none(),
         }
     }
 
     /// Of a worker that handed in the events of this share.
     pub fn of(share: Share) -> WorkerResult
-        ensures { result ≡ record { share = Some share; shows_other_history = false } }
+        ensures { result ≡ record { share = Some share; shows_other_history = false; counts = no_counts } }
     {
         WorkerResult {
             share: Some(share),
             shows_other_history: false,
+            counts: Counts::none(),
+        }
+    }
+
+    // Of a writer, by which this was sent.
+    fn of_writer(sent: Traffic) -> WorkerResult {
+        WorkerResult {
+            share: None,
+            shows_other_history: false,
+            counts: Counts::of_sender(sent),
+        }
+    }
+
+    // Of a reader, which may have ended since the node's peer speaks of another history.
+    fn of_reader(reading: Reading, shows_other_history: bool) -> WorkerResult {
+        let counts = reading.counts();
+        WorkerResult {
+            share: Some(reading.share),
+            shows_other_history,
+            counts,
         }
     }
 
     // Of a federate's reader.
     fn of_dialed(dialed: Dialed) -> WorkerResult {
-        WorkerResult {
-            share: Some(dialed.share),
-            shows_other_history: dialed.shows_other_history,
-        }
+        let Dialed {
+            reading,
+            shows_other_history,
+        } = dialed;
+        WorkerResult::of_reader(reading, shows_other_history)
     }
+}
+
+/// What workers counted that left these, all together.
+pub fn counts_of(results: &[WorkerResult]) -> Counts {
+    let mut counts = Counts::none();
+    for left in results {
+        counts = counts.plus(left.counts);
+    }
+    counts
 }
 
 /// The caller wants nothing done beside the run.
@@ -90,8 +125,7 @@ impl<'a, N: Node, G: Gate, T: Transport, C: Cut, D: Dial<T, C> + Drop, E: Accept
     fn work<R: Wait + Clock>(self, rt: &R, alloc: Global) -> WorkerResult {
         match self {
             Job::Write(queue, ending, frames) => {
-                write(rt, alloc, queue, ending, frames);
-                WorkerResult::none()
+                WorkerResult::of_writer(write(rt, alloc, queue, ending, frames))
             }
             Job::Run(context, wake_ups, turns) => {
                 WorkerResult::of(runner::run(rt, alloc, &context, wake_ups, turns))
@@ -102,7 +136,7 @@ impl<'a, N: Node, G: Gate, T: Transport, C: Cut, D: Dial<T, C> + Drop, E: Accept
                 WorkerResult::none()
             }
             Job::Read(context, peer, arrivals) => {
-                WorkerResult::of(read(rt, alloc, &context, peer, arrivals))
+                WorkerResult::of_reader(read(rt, alloc, &context, peer, arrivals), false)
             }
             Job::Connect(context, dial) => {
                 WorkerResult::of_dialed(read_dialed(rt, alloc, &context, &dial))

@@ -32,7 +32,7 @@ pub mod terms;
 pub mod threads;
 
 pub use gathering::gather_desk;
-pub use job::{Job, NoWatcher, Work, WorkerResult};
+pub use job::{Job, NoWatcher, Work, WorkerResult, counts_of};
 pub use lines::{CoordinatorLines, Endpoint, FederateLines, FederationLines};
 pub use nobody::{NoAcceptor, NoDial};
 pub use node_workers::{NodeWorkers, channels};

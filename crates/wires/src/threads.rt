@@ -1,10 +1,11 @@
 //! Threads of nodes: started in order, and waited for.
-use crate::job::{Work, WorkerResult};
+use crate::job::{Work, WorkerResult, counts_of};
 use crate::run_fault::{Cause, RunFault};
 use crate::runtime::Runtime;
 use std::alloc::Global;
 use std::thread;
 use std::thread::{JoinHandle, Scope};
+use wires_traffic::{Counts, RunCounts};
 use wires_transports::Ending;
 
 /// What the workers of a federation's nodes leave, the federates' by number. Only a run gives it: nobody else can say
@@ -30,6 +31,18 @@ impl RunResults {
             coordinator: Vec::with_capacity(alloc, coordinator)?,
             federates: lists,
         })
+    }
+
+    /// What they counted.
+    pub fn counts(&self) -> RunCounts {
+        let mut federates = Counts::none();
+        for own in &self.federates {
+            federates = federates.plus(counts_of(own));
+        }
+        RunCounts {
+            coordinator: counts_of(&self.coordinator),
+            federates,
+        }
     }
 }
 

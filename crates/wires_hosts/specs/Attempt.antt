@@ -20,7 +20,7 @@ Heard old new = (new ≡ old) ⊎ ((challenge : List ℕ) × (new ≡ after_chal
 
 -- whether a fault says that there was no connection, or none for long enough
 abbrev pub is_loss : DialFault → Bool
-is_loss NotConnected = true
+is_loss (NotConnected why) = true
 is_loss NoRandom = false
 is_loss NoAnswer = true
 is_loss NotProved = false

@@ -4,6 +4,7 @@ use Rattle.wires_greeting.specs.declared.answer.Answer.{Answer}
 use Rattle.wires_greeting.specs.declared.answer.Answer.TheVariants as answers
 use Rattle.wires_greeting.specs.declared.federate_side.FederateState.{FederateState}
 use Rattle.wires_greeting.specs.declared.federate_side.FederateState.TheVariants as states
+use Rattle.wires_hosts.specs.declared.unreached.Unreached.TheVariants as why
 use Rattle.wires_hosts.specs.declared.dial_fault.DialFault.{DialFault}
 use Rattle.wires_hosts.specs.declared.dial_fault.DialFault.TheVariants.{NotConnected, NoRandom, NoAnswer, NotProved}
 use Rattle.wires_hosts.specs.declared.dial_fault.DialFault.TheVariants.{OtherFiles, NoSuchFederate, Finished}
@@ -26,7 +27,7 @@ by_state states.NotProved = Some NotProved
 
 -- whether no other attempt makes sense: the coordinator proved that it has the secret, and refused
 abbrev pub is_final : DialFault → Bool
-is_final NotConnected = false
+is_final (NotConnected reason) = false
 is_final NoRandom = false
 is_final NoAnswer = false
 is_final NotProved = false
@@ -38,7 +39,7 @@ is_final NotAllowed = true
 -- the number by which a fault, or none, is noted
 abbrev pub note : Option DialFault → ℕ
 note None = 0
-note (Some NotConnected) = 1
+note (Some (NotConnected why.Other)) = 1
 note (Some NoRandom) = 2
 note (Some NoAnswer) = 3
 note (Some NotProved) = 4
@@ -46,3 +47,7 @@ note (Some OtherFiles) = 5
 note (Some NoSuchFederate) = 6
 note (Some Finished) = 7
 note (Some NotAllowed) = 8
+note (Some (NotConnected why.NoAddress)) = 9
+note (Some (NotConnected why.Refused)) = 10
+note (Some (NotConnected why.TimeOver)) = 11
+note (Some (NotConnected why.NoWay)) = 12

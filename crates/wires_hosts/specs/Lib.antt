@@ -12,11 +12,15 @@ pub mod Next
 pub mod Draw
 -- Whose Hello a frame is, and what begins with one.
 pub mod Hello
--- How long nothing was heard.
+-- How long nothing was heard, and what is told of that.
 pub mod Silence
--- How many attempts to connect in a row come to the same.
+-- How many attempts to connect come to the same, and how many connections in a row stand for a moment.
 pub mod Attempts
 -- Why a connection that came to the coordinator isn't let in.
 pub mod NotLetIn
 -- Which of the connections to the coordinator that are known have ended.
 pub mod Attendance
+-- Who is there of those that are awaited.
+pub mod Awaited
+-- For whom a run may wait, how long it has waited for whom, and how far it is.
+pub mod Standing

@@ -1,42 +1,41 @@
-//! Which of many attempts to connect are told that come to nothing, at either side.
-ghost use Rattle.std.specs.Prelude.{◌≡◌};
+//! Which of many attempts to connect are told that come to nothing or to a moment's connection, at either side.
+ghost use Rattle.std.specs.Prelude.{◌≡◌, slice_get};
 ghost use Rattle.std.specs.Int.{is_power_of_two};
 ghost use Rattle.wires_hosts.specs.Attempts as definition;
 
-use crate::dial_fault::DialFault;
+use crate::dial_fault::{DialFault, NOTES};
 use crate::happening::NotLetIn;
+use crate::times::QUICK_MS;
 use std::net::IpAddr;
-use std::sync::atomic::{AtomicU64, Ordering};
+use std::sync::{Mutex, Wait};
 
-/// How many attempts of one dialer in a row came to nothing for the same reason. It makes them one after the other.
+/// How many attempts of one dialer came to nothing for each reason, since one came to a connection. So reasons that take
+/// turns, as of a machine that is away, have a row each.
 #[derive(Drop)]
 pub struct Attempts {
     // By `DialFault::note`.
-    fault: AtomicU64,
-    count: AtomicU64,
+    counts: Mutex<[u64; NOTES]>,
 }
 
 impl Attempts {
     /// None was made.
     pub fn new() -> Attempts {
         Attempts {
-            fault: AtomicU64::new(DialFault::note(None)),
-            count: AtomicU64::new(0),
+            counts: Mutex::new([0; NOTES]),
         }
     }
 
-    /// One more came to nothing, for this. How many did in a row by now, for the same.
-    pub fn fail(&self, fault: DialFault) -> u64 {
-        let note = DialFault::note(Some(fault));
-        let before = self.fault.swap(note, Ordering::SeqCst);
-        let count = count_after(before, note, self.count.load(Ordering::SeqCst));
-        self.count.store(count, Ordering::SeqCst);
-        count
+    /// One more came to nothing, for this. How many did by now, for the same.
+    pub fn fail<R: Wait>(&self, rt: &R, fault: DialFault) -> u64 {
+        let note = usize::try_from(DialFault::note(Some(fault))).unwrap_or(0);
+        let mut counts = self.counts.lock(rt);
+        counted(&mut *counts, note)
     }
 
     /// One came to a connection.
-    pub fn succeed(&self) {
-        self.fault.store(DialFault::note(None), Ordering::SeqCst);
+    pub fn succeed<R: Wait>(&self, rt: &R) {
+        let mut counts = self.counts.lock(rt);
+        *counts = [0; NOTES];
     }
 }
 
@@ -47,31 +46,66 @@ pub struct Refused {
     pub why: NotLetIn,
 }
 
-/// How many connections in a row came to a coordinator from the same machine, and weren't let in for the same reason.
+/// Rows of connections that came to a coordinator and weren't let in: of each of the last few machines and reasons how
+/// many were.
 #[derive(Drop)]
 pub(crate) struct Refusals {
-    last: Option<Refused>,
+    rows: [Option<Row>; MOST_ROWS],
+    // The place of the row that is given up next, where there is no room.
+    next: usize,
+}
+
+// So many connections came from one machine, and weren't let in for one reason.
+#[derive(Clone, Copy)]
+struct Row {
+    refused: Refused,
     count: u64,
 }
 
+// Rows that are kept at most.
+const MOST_ROWS: usize = 16;
+
 impl Refusals {
-    /// None was refused since somebody was let in.
+    /// None was refused.
     pub(crate) fn new() -> Refusals {
         Refusals {
-            last: None,
-            count: 0,
+            rows: [None; MOST_ROWS],
+            next: 0,
         }
     }
 
     /// One more wasn't let in. How many weren't in a row by now, as this one.
     pub(crate) fn refuse(&mut self, refused: Refused) -> u64 {
-        self.count = if self.last == Some(refused) {
-            self.count.saturating_add(1)
-        } else {
-            1
-        };
-        self.last = Some(refused);
-        self.count
+        let mut count = 0;
+        for place in self.rows.iter_mut() {
+            if let Some(row) = *place {
+                if row.refused == refused {
+                    count = row.count.saturating_add(1);
+                    *place = Some(Row { refused, count });
+                }
+            }
+        }
+        if count > 0 {
+            return count;
+        }
+        if let Some(place) = self.rows.get_mut(self.next) {
+            *place = Some(Row { refused, count: 1 });
+        }
+        self.next = self.next.saturating_add(1) % MOST_ROWS;
+        1
+    }
+
+    /// One was let in from this machine: its rows are over.
+    pub(crate) fn let_in(&mut self, from: IpAddr) {
+        for place in self.rows.iter_mut() {
+            let is_over = match *place {
+                Some(row) => row.refused.from == from,
+                None => false,
+            };
+            if is_over {
+                *place = None;
+            }
+        }
     }
 }
 
@@ -83,13 +117,35 @@ pub fn is_told(count: u64) -> bool
     count.is_power_of_two()
 }
 
-// How many attempts in a row came to what the last one came to, where the one before came to this, and so many had.
-fn count_after(before: u64, last: u64, count: u64) -> u64
-    ensures { result ≡ definition.count_after before last count }
+// One more attempt came to what has this number. How many did by now, of which it is counted how many had.
+fn counted(counts: &mut [u64; NOTES], note: usize) -> u64
+    ensures { result ≡ definition.count_after (slice_get counts.old note) }
 {
-    if before == last {
+    match counts.get_mut(note) {
+        Some(count) => {
+            *count = count.saturating_add(1);
+            *count
+        }
+        None => 1,
+    }
+}
+
+/// How many connections in a row stood for a moment alone, where the last stood for so many ms and so many did before
+/// it.
+pub fn quick_after(stood_ms: u64, count: u64) -> u64
+    ensures { result ≡ definition.quick_after stood_ms count }
+{
+    if stood_ms < QUICK_MS {
         count.saturating_add(1)
     } else {
         1
     }
+}
+
+/// Whether two processes of one federate may run, where so many of its connections in a row took another one's place,
+/// the last from the same machine or from another one.
+pub fn may_be_two(is_same_machine: bool, times: u64) -> bool
+    ensures { result ≡ definition.may_be_two is_same_machine times }
+{
+    !is_same_machine || times >= 4
 }

@@ -11,6 +11,11 @@ pub struct LetInFrom {
     pub federate: u16,
     pub connection: u64,
     pub address: SocketAddr,
+    /// When it was let in, in ms since the node began.
+    pub since_ms: u64,
+    /// How many connections in a row took another one's place and stood for a moment alone, this one the last; 0 where
+    /// it took nobody's.
+    pub replaced: u64,
 }
 
 /// The connection of each federate by its number, while it has one.
@@ -40,11 +45,18 @@ impl Attendance {
         self.count
     }
 
-    /// A federate was let in. The connection whose place this one takes, if there is one.
-    pub(crate) fn come(&mut self, now: LetInFrom) -> Option<LetInFrom> {
-        match self.present.get_mut(usize::from(now.federate)) {
-            Some(place) => place.replace(now),
+    /// The connection that a federate has, if it has one.
+    pub(crate) fn present(&self, federate: u16) -> Option<LetInFrom> {
+        match self.present.get(usize::from(federate)) {
+            Some(present) => *present,
             None => None,
+        }
+    }
+
+    /// A federate was let in on this connection. An older one that it has is its own no more.
+    pub(crate) fn come(&mut self, now: LetInFrom) {
+        if let Some(place) = self.present.get_mut(usize::from(now.federate)) {
+            *place = Some(now);
         }
     }
 

@@ -1,13 +1,14 @@
 ghost use Rattle.std.specs.Prelude.{◌≡◌, None, Some};
 ghost use Rattle.wires_hosts.specs.DialFault as definition;
 
+use crate::unreached::Unreached;
 use wires_greeting::{Answer, FederateState};
 
 /// Why an attempt to connect came to nothing.
 #[derive(Clone, Copy, Debug, PartialEq, Eq)]
 pub enum DialFault {
-    /// There was no connection: nobody listens there, or nobody answered in time. Another attempt may come to more.
-    NotConnected,
+    /// There was no connection, and the inner reason says why. Another attempt may come to more.
+    NotConnected(Unreached),
     /// The system gave no random bytes. Another attempt may come to more.
     NoRandom,
     /// The connection ended before there was an answer, or none came in time. Another attempt may come to more.
@@ -24,6 +25,9 @@ pub enum DialFault {
     /// The coordinator lets this federate take part no more.
     NotAllowed,
 }
+
+/// How many numbers there are by which faults, or none, are noted.
+pub(crate) const NOTES: usize = 13;
 
 impl DialFault {
     ghost use Rattle.std.specs.Prelude.{Option};
@@ -59,7 +63,7 @@ impl DialFault {
         ensures { result ≡ definition.is_final self }
     {
         match self {
-            DialFault::NotConnected
+            DialFault::NotConnected(_)
             | DialFault::NoRandom
             | DialFault::NoAnswer
             | DialFault::NotProved => false,
@@ -76,7 +80,7 @@ impl DialFault {
     {
         match fault {
             None => 0,
-            Some(DialFault::NotConnected) => 1,
+            Some(DialFault::NotConnected(Unreached::Other)) => 1,
             Some(DialFault::NoRandom) => 2,
             Some(DialFault::NoAnswer) => 3,
             Some(DialFault::NotProved) => 4,
@@ -84,6 +88,10 @@ impl DialFault {
             Some(DialFault::NoSuchFederate) => 6,
             Some(DialFault::Finished) => 7,
             Some(DialFault::NotAllowed) => 8,
+            Some(DialFault::NotConnected(Unreached::NoAddress)) => 9,
+            Some(DialFault::NotConnected(Unreached::Refused)) => 10,
+            Some(DialFault::NotConnected(Unreached::TimeOver)) => 11,
+            Some(DialFault::NotConnected(Unreached::NoWay)) => 12,
         }
     }
 
@@ -92,7 +100,7 @@ impl DialFault {
         ensures { (fault : Option DialFault) → note ≡ definition.note fault → result ≡ fault }
     {
         match note {
-            1 => Some(DialFault::NotConnected),
+            1 => Some(DialFault::NotConnected(Unreached::Other)),
             2 => Some(DialFault::NoRandom),
             3 => Some(DialFault::NoAnswer),
             4 => Some(DialFault::NotProved),
@@ -100,6 +108,10 @@ impl DialFault {
             6 => Some(DialFault::NoSuchFederate),
             7 => Some(DialFault::Finished),
             8 => Some(DialFault::NotAllowed),
+            9 => Some(DialFault::NotConnected(Unreached::NoAddress)),
+            10 => Some(DialFault::NotConnected(Unreached::Refused)),
+            11 => Some(DialFault::NotConnected(Unreached::TimeOver)),
+            12 => Some(DialFault::NotConnected(Unreached::NoWay)),
             _ => None,
         }
     }

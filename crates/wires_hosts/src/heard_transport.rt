@@ -6,8 +6,8 @@ use crate::heard::Heard;
 use std::sync::Wait;
 use wires_transports::{Broken, Connection, Failures, Transport};
 
-/// One end of a connection, around another one: it counts each time that bytes came, notes where no more come of a
-/// federate, and nothing leaves before the barrier lets it. It is otherwise the same.
+/// One end of a connection, around another one: it counts each time that bytes came, notes where no more come, and
+/// nothing leaves before the barrier lets it. It is otherwise the same.
 #[derive(Drop)]
 pub struct HeardTransport<'a, T: Transport, B: Barrier> {
     inner: T,
@@ -65,10 +65,21 @@ impl<'a, T: Transport, B: Barrier> HeardTransport<'a, T, B> {
         }
     }
 
-    // Notes that nothing more comes.
-    fn note_ended(&self) {
-        if let Some(from) = self.from {
-            self.heard.note_ended(from.federate, from.connection);
+    // Notes that something came.
+    fn note_heard(&self) {
+        self.heard.hear();
+        match self.from {
+            Some(from) => self.heard.hear_of(from.federate),
+            // A federate hears of its own place.
+            None => self.heard.hear_of(0),
+        }
+    }
+
+    // Notes that nothing more comes: it was closed at the other end, or broke.
+    fn note_ended(&self, is_closed: bool) {
+        match self.from {
+            Some(from) => self.heard.note_ended(from.federate, from.connection),
+            None => self.heard.note_disconnected(is_closed),
         }
     }
 
@@ -104,9 +115,9 @@ impl<'a, T: Transport, B: Barrier> Transport for HeardTransport<'a, T, B> {
     fn recv<R: Wait>(&mut self, rt: &R, room: &mut [u8]) -> Result<usize, Broken> {
         let received = self.inner.recv(rt, room);
         if matches!(received, Ok(1..)) {
-            self.heard.hear();
+            self.note_heard();
         } else {
-            self.note_ended();
+            self.note_ended(received.is_ok());
         }
         received
     }

@@ -1,9 +1,9 @@
 //! The worker that lets federates' processes in, for the coordinator's.
-use crate::attempts::{Refusals, Refused, is_told};
+use crate::attempts::{Refusals, Refused, is_told, may_be_two, quick_after};
 use crate::attendance::{Attendance, LetInFrom};
 use crate::barrier::Barrier;
 use crate::draw::drawn;
-use crate::happening::Happening;
+use crate::happening::{Happening, Loss, Replaced};
 use crate::heard::Heard;
 use crate::heard_transport::HeardTransport;
 use crate::pending_host::{HostState, PendingHost, Terms};
@@ -53,7 +53,8 @@ pub struct HostEntrance {
 /// what is silent keeps nobody else waiting. Once the run is to end, readers get no more connections, and what they
 /// haven't read to the end a second later is ended. Where the run is finished, and the barrier keeps all that made it so,
 /// whoever asks then is told, until all federates were, each of which proved it by the secret, or the patience is over.
-/// Whoever watches is told who is let in and who isn't, whose connection has ended, and who was told at the end.
+/// Whoever watches is told who is awaited, who is let in and who isn't, whose connection has ended, and at the end who
+/// was told and who wasn't.
 #[derive(Drop)]
 pub struct HostAcceptor<'a, S: RandomSource, B: Barrier> {
     random: &'a S,
@@ -167,6 +168,9 @@ fn let_in_until<'a, R: Wait + Clock, S: RandomSource, B: Barrier>(
 ) -> Vec<PendingHost> {
     let mut pending = Vec::new(alloc);
     let mut calm = Deadline::after(rt, CALM_AFTER_MS);
+    if !ending.is_set() {
+        tell_awaited(rt, hearing.heard);
+    }
     for _ in rt.forever() {
         if ending.is_set() {
             break;
@@ -189,11 +193,24 @@ fn let_in_until<'a, R: Wait + Clock, S: RandomSource, B: Barrier>(
 fn tell_lost<R: Wait + Clock>(rt: &R, heard: &Heard, attendance: &mut Attendance, ending: &Ending) {
     for federate in 0..attendance.federate_count() {
         if let Some(gone) = attendance.leave(federate, heard.ended(federate)) {
+            let now = heard.millis(rt);
+            heard.note_connection(gone.federate, false, now);
             if !ending.is_set() {
-                heard.tell(rt, rt, Happening::Lost(gone.federate, gone.address));
+                let loss = Loss {
+                    federate: gone.federate,
+                    address: gone.address,
+                    quiet_ms: heard.quiet_ms(federate, now).unwrap_or(0),
+                    connected: heard.connected(),
+                };
+                heard.tell(rt, rt, Happening::Lost(loss));
             }
         }
     }
+}
+
+// Tells whoever watches how many federates are connected, and who is awaited.
+fn tell_awaited<R: Wait + Clock>(rt: &R, heard: &Heard) {
+    heard.tell(rt, rt, Happening::Awaits(heard.connected()));
 }
 
 // Tells whoever asks that the run is finished, where no reader gets a connection any more, until all federates were
@@ -208,7 +225,14 @@ fn tell_all<'a, R: Wait + Clock, S: RandomSource, B: Barrier>(
     connected: &mut Connected<'a, B>,
 ) {
     let mut pending = pending;
-    let patience = Deadline::after(rt, millis(entrance.patience));
+    let patience_ms = millis(entrance.patience);
+    let patience = Deadline::after(rt, patience_ms);
+    if patience_ms > 0 {
+        let told = hearing.heard.told();
+        hearing
+            .heard
+            .tell(rt, rt, Happening::Tells(patience_ms, told));
+    }
     for _ in rt.forever() {
         if hearing.heard.are_all_told() || patience.has_passed(rt) {
             break;
@@ -217,6 +241,21 @@ fn tell_all<'a, R: Wait + Clock, S: RandomSource, B: Barrier>(
             thread::sleep(rt, Duration::from_millis(PAUSE_MS));
         }
         pending = listen_to(rt, alloc, terms, hearing, pending, connected);
+    }
+    if patience_ms > 0 {
+        tell_untold(rt, hearing.heard);
+    }
+}
+
+// Tells whoever watches which federates weren't told that the run is finished.
+fn tell_untold<R: Wait + Clock>(rt: &R, heard: &Heard) {
+    for federate in 0..heard.federate_count() {
+        if heard.is_told(federate) {
+            continue;
+        }
+        if let Ok(federate) = u16::try_from(federate) {
+            heard.tell(rt, rt, Happening::Untold(federate));
+        }
     }
 }
 
@@ -298,7 +337,8 @@ fn listen_to<'a, R: Wait + Clock, S: RandomSource, B: Barrier>(
     left
 }
 
-// Tells of a connection that is closed why whoever made it isn't let in; of many in a row that are alike, ever fewer.
+// Tells of a connection that is closed why whoever made it isn't let in; of many in a row from one machine that are
+// alike, ever fewer.
 fn tell_closed<R: Wait + Clock>(
     rt: &R,
     heard: &Heard,
@@ -323,25 +363,66 @@ fn admit<'a, R: Wait + Clock, B: Barrier>(
     federate: u16,
     connected: &mut Connected<'a, B>,
 ) {
+    let heard = hearing.heard;
     let address = host.address;
+    let older = connected.attendance.present(federate);
+    let now = heard.millis(rt);
+    let quiet_ms = heard.quiet_ms(usize::from(federate), now).unwrap_or(0);
     let from = LetInFrom {
         federate,
         connection: connected.attendance.next_number(),
         address,
+        since_ms: now,
+        replaced: replaced_by(now, older),
     };
-    if let Some(accepted) = host.into_accepted(alloc, hearing.heard, hearing.barrier, from) {
-        hearing.heard.hear();
-        connected.refusals = Refusals::new();
-        if let Some(older) = connected.attendance.come(from) {
-            hearing
-                .heard
-                .tell(rt, rt, Happening::Lost(federate, older.address));
-        }
-        hearing
-            .heard
-            .tell(rt, rt, Happening::LetIn(federate, address));
+    if let Some(accepted) = host.into_accepted(alloc, heard, hearing.barrier, from) {
+        heard.hear();
+        heard.hear_of(federate);
+        connected.refusals.let_in(address.ip());
+        connected.attendance.come(from);
+        heard.note_connection(federate, true, from.since_ms);
+        tell_let_in(rt, heard, from, older, quiet_ms);
         connected
             .current
             .hand_on(rt, usize::from(federate), accepted);
+    }
+}
+
+// How many connections of a federate in a row have taken another one's place and stood for a moment alone, where one
+// takes the place of this one at this time; 0 where it takes nobody's.
+fn replaced_by(millis: u64, older: Option<LetInFrom>) -> u64 {
+    match older {
+        Some(older) => quick_after(millis.saturating_sub(older.since_ms), older.replaced),
+        None => 0,
+    }
+}
+
+// Tells whoever watches that a federate was let in, and who is awaited then, or that this connection took the place of
+// an older one, and how many ms before it was heard last; of many in a row that did, ever fewer.
+fn tell_let_in<R: Wait + Clock>(
+    rt: &R,
+    heard: &Heard,
+    from: LetInFrom,
+    older: Option<LetInFrom>,
+    quiet_ms: u64,
+) {
+    match older {
+        Some(older) if is_told(from.replaced) => {
+            let is_same_machine = from.address.ip() == older.address.ip();
+            let replaced = Replaced {
+                federate: from.federate,
+                now: from.address,
+                before: older.address,
+                quiet_ms,
+                times: from.replaced,
+                may_be_two: may_be_two(is_same_machine, from.replaced),
+            };
+            heard.tell(rt, rt, Happening::Replaced(replaced));
+        }
+        Some(_) => {}
+        None => {
+            heard.tell(rt, rt, Happening::LetIn(from.federate, from.address));
+            tell_awaited(rt, heard);
+        }
     }
 }

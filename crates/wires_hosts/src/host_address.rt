@@ -1,5 +1,6 @@
 //! Where a coordinator is.
 
+use crate::unreached::{Missed, Unreached};
 use arrayvec::ArrayString;
 use std::net::{Net, SocketAddr, TcpListener, TcpStream, ToSocketAddrs};
 use std::time::Duration;
@@ -47,11 +48,23 @@ impl HostAddress {
         }
     }
 
-    /// A connection to whoever listens there. Of a name the first few addresses are tried, each for as long as any.
-    pub fn connect<R: Net<Stream = TcpStream>>(&self, net: &R) -> io::Result<TcpStream> {
+    /// A connection to whoever listens there, or why there is none. Of a name the first few addresses are tried, each
+    /// for as long as any; why it is none is said of the last of them.
+    pub fn connect<R: Net<Stream = TcpStream>>(&self, net: &R) -> Result<TcpStream, Missed> {
         match self {
-            HostAddress::At(address) => connect_to(net, address),
+            HostAddress::At(address) => match connect_to(net, address) {
+                Ok(stream) => Ok(stream),
+                Err(why) => Err(Missed { why, tried: None }),
+            },
             HostAddress::Named(host, port) => connect_to_one(net, host.as_str(), *port),
+        }
+    }
+
+    /// Where a connection to there leads that a host's name was looked up for; None of an address.
+    pub(crate) fn found(&self, stream: &TcpStream) -> Option<SocketAddr> {
+        match self {
+            HostAddress::At(_) => None,
+            HostAddress::Named(_, _) => stream.peer_addr().ok(),
         }
     }
 }
@@ -65,20 +78,37 @@ impl fmt::Display for HostAddress {
     }
 }
 
-fn connect_to<R: Net<Stream = TcpStream>>(net: &R, address: &SocketAddr) -> io::Result<TcpStream> {
-    TcpStream::connect_timeout(net, address, Duration::from_millis(CONNECT_MS))
+fn connect_to<R: Net<Stream = TcpStream>>(
+    net: &R,
+    address: &SocketAddr,
+) -> Result<TcpStream, Unreached> {
+    match TcpStream::connect_timeout(net, address, Duration::from_millis(CONNECT_MS)) {
+        Ok(stream) => Ok(stream),
+        Err(error) => Err(Unreached::of(&error)),
+    }
 }
 
 fn connect_to_one<R: Net<Stream = TcpStream>>(
     net: &R,
     host: &str,
     port: u16,
-) -> io::Result<TcpStream> {
-    let mut last = io::Error::from(io::ErrorKind::NotFound);
-    for address in (host, port).to_socket_addrs(net)?.take(MOST_TRIED) {
+) -> Result<TcpStream, Missed> {
+    let mut last = Missed {
+        why: Unreached::NoAddress,
+        tried: None,
+    };
+    let Ok(found) = (host, port).to_socket_addrs(net) else {
+        return Err(last);
+    };
+    for address in found.take(MOST_TRIED) {
         match connect_to(net, &address) {
             Ok(stream) => return Ok(stream),
-            Err(why) => last = why,
+            Err(why) => {
+                last = Missed {
+                    why,
+                    tried: Some(address),
+                }
+            }
         }
     }
     Err(last)

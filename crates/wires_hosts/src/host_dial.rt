@@ -3,11 +3,11 @@ ghost use Rattle.std.specs.Prelude.{◌≡◌, ◌⊎◌, None, Some, IsOk, IfEr
 ghost use Rattle.wires_hosts.specs.Attempt as definition;
 ghost use Rattle.wires_hosts.specs.DialFault.{by_state};
 
-use crate::attempts::{Attempts, is_told};
+use crate::attempts::{Attempts, is_told, quick_after};
 use crate::back_off::BackOff;
 use crate::barrier::{Barrier, Unkept};
 use crate::dial_fault::DialFault;
-use crate::happening::Happening;
+use crate::happening::{Disconnection, Failure, Happening};
 use crate::heard::Heard;
 use crate::heard_transport::HeardTransport;
 use crate::host_address::HostAddress;
@@ -15,14 +15,15 @@ use crate::incoming::Incoming;
 use crate::last_connection::LastConnection;
 use crate::source::random_bytes;
 use crate::times::ENDING_LOOK_MS;
+use crate::unreached::{Missed, Unreached};
 use std::alloc::Global;
 use std::io::Write;
-use std::net::{Net, TcpListener, TcpStream};
+use std::net::{Net, SocketAddr, TcpListener, TcpStream};
 use std::random::RandomSource;
-use std::sync::atomic::{AtomicBool, Ordering};
-use std::sync::{Arc, Wait};
+use std::sync::atomic::{AtomicBool, AtomicU64, Ordering};
+use std::sync::{Arc, Mutex, Wait};
+use std::thread;
 use std::time::{Clock, Duration};
-use std::{io, thread};
 use wires_greeting::{
     CHALLENGE_SIZE, DIGEST_SIZE, FederateSide, FederateState, Greeting, Key, PROOF_SIZE,
     RANDOM_SIZE,
@@ -45,8 +46,8 @@ pub struct FederateHost {
 
 /// Makes a federate's connections to the coordinator's process. What an attempt came to is noted; where the coordinator
 /// refused, the run is to end. Each connection is noted as the last one. Before an attempt it waits as `BackOff` says,
-/// and not past the end of the run. Whoever watches is told of each connection, of its end, and of attempts that come
-/// to nothing, as `Attempts` counts them.
+/// and not past the end of the run. Whoever watches is told of each connection and of its end, of attempts that come to
+/// nothing, as `Attempts` counts them, and of the first attempt before it is made.
 #[derive(Drop)]
 pub struct HostDial<
     'a,
@@ -61,8 +62,25 @@ pub struct HostDial<
     ending: &'a Ending,
     back_off: BackOff,
     attempts: Attempts,
-    // Whether the last attempt came to a connection of whose end nothing was told.
+    // Where the last attempt went, of the addresses of a host's name.
+    tried: Mutex<Option<SocketAddr>>,
+    // Whether an attempt was made.
+    has_begun: AtomicBool,
+    // Whether the last attempt came to a connection whose end wasn't noticed so far.
     is_connected: AtomicBool,
+    // When that was, in ms since the node began.
+    since_ms: AtomicU64,
+    // How many connections in a row stood for a moment alone, and whether it was told that the last of them ended.
+    quick: AtomicU64,
+    is_shown: AtomicBool,
+}
+
+// What an attempt came to.
+#[derive(Drop)]
+struct Attempted<'a, B: Barrier> {
+    connection: Connection<HeardTransport<'a, TcpTransport, B>, TcpCut>,
+    // Where it leads, where its address is a host's name.
+    found: Option<SocketAddr>,
 }
 
 impl<
@@ -88,7 +106,12 @@ impl<
             ending,
             back_off: BackOff::new(),
             attempts: Attempts::new(),
+            tried: Mutex::new(None),
+            has_begun: AtomicBool::new(false),
             is_connected: AtomicBool::new(false),
+            since_ms: AtomicU64::new(0),
+            quick: AtomicU64::new(0),
+            is_shown: AtomicBool::new(true),
         }
     }
 
@@ -97,28 +120,92 @@ impl<
         self.heard.tell(rt, self.machine, what);
     }
 
-    // Tells of an attempt that came to nothing, unless it was broken off since the run is to end.
-    fn tell_failure<R: Wait>(&self, rt: &R, fault: DialFault) {
-        let count = self.attempts.fail(fault);
-        match fault {
-            DialFault::Finished => self.tell(rt, Happening::Finished),
-            _ if self.ending.is_set() || !is_told(count) => {}
-            _ => self.tell(rt, Happening::Failed(self.host.address, fault, count)),
+    // Tells that the first attempt is made, where this is it.
+    fn tell_first<R: Wait>(&self, rt: &R) {
+        if !self.has_begun.swap(true, Ordering::SeqCst) {
+            self.tell(rt, Happening::Connects(self.host.address));
         }
     }
 
-    // A connection on which frames begin, or why there is none; what the coordinator answered is with this side.
+    // Tells that the last connection has ended; of many in a row that stood for a moment alone, of ever fewer.
+    fn tell_end<R: Wait>(&self, rt: &R) {
+        let now = self.heard.millis(self.machine);
+        self.heard.note_connection(0, false, now);
+        let stood = now.saturating_sub(self.since_ms.load(Ordering::SeqCst));
+        let times = quick_after(stood, self.quick.load(Ordering::SeqCst));
+        self.quick.store(times, Ordering::SeqCst);
+        self.is_shown.store(is_told(times), Ordering::SeqCst);
+        if is_told(times) {
+            let disconnection = Disconnection {
+                is_closed: self.heard.was_closed(),
+                times,
+            };
+            self.tell(
+                rt,
+                Happening::Disconnected(self.host.address, disconnection),
+            );
+        }
+    }
+
+    // Tells of a connection that leads there, unless nothing was told of the end of the one before.
+    fn tell_connection<R: Wait>(&self, rt: &R, found: Option<SocketAddr>) {
+        let now = self.heard.millis(self.machine);
+        self.heard.note_connection(0, true, now);
+        self.since_ms.store(now, Ordering::SeqCst);
+        self.is_connected.store(true, Ordering::SeqCst);
+        if self.is_shown.load(Ordering::SeqCst) {
+            self.tell(rt, Happening::Connected(self.host.address, found));
+        }
+    }
+
+    // An attempt goes there, of the addresses of a host's name.
+    fn note_tried<R: Wait>(&self, rt: &R, tried: Option<SocketAddr>) {
+        let mut last = self.tried.lock(rt);
+        *last = tried;
+    }
+
+    // Where the last attempt went.
+    fn tried<R: Wait>(&self, rt: &R) -> Option<SocketAddr> {
+        *self.tried.lock(rt)
+    }
+
+    // Tells of an attempt that came to nothing, unless it was broken off since the run is to end.
+    fn tell_failure<R: Wait>(&self, rt: &R, fault: DialFault) {
+        let times = self.attempts.fail(rt, fault);
+        if fault == DialFault::Finished {
+            self.tell(rt, Happening::Finished);
+        } else if !self.ending.is_set() && is_told(times) {
+            let failure = Failure {
+                address: self.host.address,
+                tried: self.tried(rt),
+                fault,
+                times,
+            };
+            self.tell(rt, Happening::Failed(failure));
+        }
+    }
+
+    // A connection on which frames begin, and where it leads where its address is a host's name, or why there is none;
+    // what the coordinator answered is with this side.
     fn attempt<R: Wait>(
         &self,
         rt: &R,
         alloc: Global,
         side: &mut FederateSide,
-    ) -> Result<Connection<HeardTransport<'a, TcpTransport, B>, TcpCut>, DialFault>
+    ) -> Result<Attempted<'a, B>, DialFault>
         ensures proved { IsOk result → by_state side.new.state ≡ None }
         ensures failed { IfErr result (λ fault. definition.FailedBy side.old side.new fault) }
         ensures heard { definition.Heard side.old side.new }
     {
-        let mut stream = connected(self.machine, &self.host.address)?;
+        let mut stream = match connected(self.machine, &self.host.address) {
+            Ok(stream) => stream,
+            Err(missed) => {
+                self.note_tried(rt, missed.tried);
+                return Err(DialFault::NotConnected(missed.why));
+            }
+        };
+        let found = self.host.address.found(&stream);
+        self.note_tried(rt, found);
         greet(
             rt,
             self.machine,
@@ -127,8 +214,13 @@ impl<
             self.barrier,
             self.ending,
         )?;
-        let connection = begun(alloc, stream)?;
-        Ok(HeardTransport::around(connection, self.heard, self.barrier))
+        match begun(alloc, stream) {
+            Some(connection) => Ok(Attempted {
+                connection: HeardTransport::around(connection, self.heard, self.barrier),
+                found,
+            }),
+            None => Err(DialFault::NotConnected(Unreached::Other)),
+        }
     }
 
     // The same connection, noted as the last one. One that can't be noted is ended, since nobody else would end it.
@@ -162,23 +254,24 @@ impl<
     ) -> Option<Connection<HeardTransport<'a, TcpTransport, B>, TcpCut>> {
         if self.is_connected.swap(false, Ordering::SeqCst) {
             // Whoever dials has read the last connection to its end.
-            self.tell(rt, Happening::Disconnected(self.host.address));
+            self.tell_end(rt);
         }
+        self.tell_first(rt);
         let pause = self.back_off.begin(self.heard.count());
         if !has_paused(self.machine, pause, self.ending) {
             return None;
         }
+        self.note_tried(rt, None);
         let random = random_bytes(|room| self.machine.fill_bytes(room));
         let attempt = match side_by(&self.host, random) {
             Ok(mut side) => self.attempt(rt, alloc, &mut side),
             Err(fault) => Err(fault),
         };
         match attempt {
-            Ok(connection) => {
+            Ok(Attempted { connection, found }) => {
                 self.heard.note_attempt(None);
-                self.attempts.succeed();
-                self.is_connected.store(true, Ordering::SeqCst);
-                self.tell(rt, Happening::Connected(self.host.address));
+                self.attempts.succeed(rt);
+                self.tell_connection(rt, found);
                 self.noted(rt, connection)
             }
             Err(fault) => {
@@ -226,18 +319,15 @@ fn side_by(
 fn connected<M: Net<Stream = TcpStream>>(
     net: &M,
     address: &HostAddress,
-) -> Result<TcpStream, DialFault>
-    ensures { IfErr result (λ fault. fault ≡ DialFault.NotConnected) }
-{
-    match connect(net, address) {
-        Ok(stream) => Ok(stream),
-        Err(_) => Err(DialFault::NotConnected),
-    }
-}
-
-fn connect<M: Net<Stream = TcpStream>>(net: &M, address: &HostAddress) -> io::Result<TcpStream> {
+) -> Result<TcpStream, Missed> {
     let stream = address.connect(net)?;
-    stream.set_nonblocking(true)?;
+    if stream.set_nonblocking(true).is_err() {
+        let tried = address.found(&stream);
+        return Err(Missed {
+            why: Unreached::Other,
+            tried,
+        });
+    }
     Ok(stream)
 }
 
@@ -333,15 +423,8 @@ fn answer<R: Wait, M: Clock>(
     Some(incoming.challenge())
 }
 
-// A stream on which frames begin, as a connection for its two workers, who wait.
-fn begun(alloc: Global, stream: TcpStream) -> Result<Connection<TcpTransport, TcpCut>, DialFault>
-    ensures { IfErr result (λ fault. fault ≡ DialFault.NotConnected) }
-{
-    if stream.set_nonblocking(false).is_err() {
-        return Err(DialFault::NotConnected);
-    }
-    match connection(alloc, stream) {
-        Ok(connection) => Ok(connection),
-        Err(_) => Err(DialFault::NotConnected),
-    }
+// A stream on which frames begin, as a connection for its two workers, who wait. None where the system refuses that.
+fn begun(alloc: Global, stream: TcpStream) -> Option<Connection<TcpTransport, TcpCut>> {
+    stream.set_nonblocking(false).ok()?;
+    connection(alloc, stream).ok()
 }

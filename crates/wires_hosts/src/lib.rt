@@ -12,13 +12,16 @@
 //! or where the `Barrier` refused it: then nothing was sent. Nothing is said of when a call returns. Keys are made by
 //! `wires_greeting::Key` alone. Whoever watches is told what happens (`happening`), through a channel for which nobody
 //! waits (`teller`): why a connection isn't let in is `specs/NotLetIn`, how many attempts came to the same
-//! `specs/Attempts`, and which connection has ended `specs/Attendance`.
+//! `specs/Attempts`, which connection has ended `specs/Attendance`, who is awaited `specs/Awaited` and `specs/Standing`,
+//! and when it is told that nobody is heard `specs/Silence`. Whoever measures a node is told its moments the same way
+//! (`moment`).
 //!
 //! Begin with `heard` and `barrier`, which one process's threads share, then `host_dial` and `host_acceptor`.
 #![tactic(auto)]
 
-mod attempts;
+pub mod attempts;
 mod attendance;
+pub mod awaited;
 pub mod back_off;
 pub mod barrier;
 pub mod dial_fault;
@@ -33,18 +36,24 @@ pub mod host_dial;
 mod incoming;
 pub mod last_connection;
 pub mod listening;
+pub mod look;
+pub mod moment;
 mod next;
+mod overview;
 pub mod patience;
 mod pending_host;
 pub mod silence;
 mod source;
+pub mod standing;
 pub mod teller;
 pub mod times;
+pub mod unreached;
 
+pub use awaited::Awaited;
 pub use back_off::BackOff;
 pub use barrier::{Barrier, NoBarrier, Unkept};
 pub use dial_fault::DialFault;
-pub use happening::{GivenUp, Happening, NotLetIn};
+pub use happening::{Disconnection, Failure, GivenUp, Happening, Loss, NotLetIn, Replaced};
 pub use heard::Heard;
 pub use heard_transport::HeardTransport;
 pub use host_acceptor::{HostAcceptor, HostEntrance};
@@ -52,6 +61,10 @@ pub use host_address::HostAddress;
 pub use host_dial::{FederateHost, HostDial};
 pub use last_connection::LastConnection;
 pub use listening::listen_at;
-pub use patience::Patience;
+pub use look::{Look, NoLook};
+pub use moment::{Measured, Moment};
+pub use patience::{Patience, Watching};
 pub use silence::Silence;
-pub use teller::{Happened, Teller, Told};
+pub use standing::{HowFar, Reached, Standing};
+pub use teller::{Happened, Looked, Teller, Told};
+pub use unreached::{Missed, Unreached};

@@ -1,6 +1,7 @@
 ghost use Rattle.std.specs.Prelude.{◌≡◌};
+ghost use Rattle.wires_hosts.specs.Silence as definition;
 
-use crate::times::PATIENCE_LOOK_MS;
+use crate::times::{PATIENCE_LOOK_MS, STILL_MS};
 
 /// How long nothing was heard, by looks at how often something was. It is counted in looks and not by the clock: a
 /// process that was stopped for a while, and goes on, has heard what came meanwhile before it thinks that it was
@@ -14,8 +15,6 @@ pub struct Silence {
 }
 
 impl Silence {
-    ghost use Rattle.wires_hosts.specs.Silence as definition;
-
     /// The silence begins, where this is how often something was heard by now.
     pub fn new(heard: u64) -> Silence
         ensures { result ≡ record { heard = heard; quiet_ms = 0 } }
@@ -33,5 +32,29 @@ impl Silence {
             0
         };
         Silence { heard, quiet_ms }
+    }
+}
+
+/// What is told of a silence.
+#[derive(Clone, Copy, Debug, PartialEq, Eq)]
+pub enum SilenceTold {
+    /// It lasts.
+    Lasts,
+    /// It is over, behind one of which was told.
+    IsOver,
+}
+
+/// What is told of a silence that has lasted for the second number of ms, where it was told last of one that had lasted
+/// for the first, or of none by 0: that it lasts, after 5 s, and once it has become twice as long, so that whoever is
+/// away for a day has few lines to read; and that the one is over of which was told.
+pub fn told_of_silence(told_ms: u64, quiet_ms: u64) -> Option<SilenceTold>
+    ensures { result ≡ definition.told_of_silence told_ms quiet_ms }
+{
+    if quiet_ms < told_ms {
+        Some(SilenceTold::IsOver)
+    } else if quiet_ms >= STILL_MS && quiet_ms / 2 >= told_ms {
+        Some(SilenceTold::Lasts)
+    } else {
+        None
     }
 }

@@ -1,11 +1,15 @@
 //! How a node tells whoever watches it what happens.
 use crate::happening::Happening;
+use crate::moment::{Measured, Moment};
+use crate::standing::Standing;
+use crate::times::WIPE_MS;
 use crossbeam_channel::{Receiver, Sender, bounded};
 use plan_names::Text;
 use std::alloc::{AllocError, Global};
 use std::sync::Wait;
 use std::sync::atomic::{AtomicU64, Ordering};
-use std::time::{Clock, Instant};
+use std::time::{Clock, Duration, Instant};
+use tag::Time;
 
 /// What is told and not taken so far, at most.
 pub const MOST_WAITING: usize = 256;
@@ -16,6 +20,21 @@ pub enum Told {
     /// The names of the federates, in their order: before all else, where there is memory for them.
     Federates(Vec<Text>),
     Happened(Happened),
+    /// Where a federate stands.
+    Stands(Standing),
+    /// A look is over.
+    Looked(Looked),
+    /// No look comes any more, and what is drawn of them is to be wiped: whoever waits for that has this one's other end.
+    Wipe(Sender<()>),
+}
+
+/// A look that is over.
+#[derive(Clone, Copy, Debug, PartialEq, Eq)]
+pub struct Looked {
+    /// Of so many federates it wasn't told where they stand.
+    pub more: usize,
+    /// The time at which the run is over; None where it isn't known.
+    pub stop: Option<Time>,
 }
 
 /// Something that happened at a node.
@@ -34,15 +53,19 @@ pub struct Happened {
 pub struct Teller {
     // None where nobody watches.
     to: Option<Sender<Told>>,
+    // None where nobody measures.
+    measures: Option<Sender<Measured>>,
     // None where the clock couldn't be read.
     start: Option<Instant>,
+    // Whether whoever watches wants to be told where federates stand.
+    wants_looks: bool,
     left_out: AtomicU64,
 }
 
 impl Teller {
     /// Nobody watches.
     pub fn silent() -> Teller {
-        Teller::new(None, None)
+        Teller::new(None, None, false)
     }
 
     /// Of a node that begins now, with the end where what it tells is taken. Nothing more comes there once it, and all
@@ -52,14 +75,56 @@ impl Teller {
         alloc: Global,
     ) -> Result<(Teller, Receiver<Told>), AllocError> {
         let (to, told) = bounded(alloc, MOST_WAITING)?;
-        Ok((Teller::new(Some(to), Instant::now(clock).ok()), told))
+        Ok((Teller::new(Some(to), Instant::now(clock).ok(), false), told))
     }
 
-    fn new(to: Option<Sender<Told>>, start: Option<Instant>) -> Teller {
+    fn new(to: Option<Sender<Told>>, start: Option<Instant>, wants_looks: bool) -> Teller {
         Teller {
             to,
+            measures: None,
             start,
+            wants_looks,
             left_out: AtomicU64::new(0),
+        }
+    }
+
+    /// The same one, which tells its moments over this channel besides, to whoever measures the node.
+    pub fn measured<C: Clock>(self, clock: &C, measures: Sender<Measured>) -> Teller {
+        let Teller {
+            to,
+            start,
+            wants_looks,
+            left_out,
+            ..
+        } = self;
+        let start = match start {
+            Some(start) => Some(start),
+            None => Instant::now(clock).ok(),
+        };
+        Teller {
+            to,
+            measures: Some(measures),
+            start,
+            wants_looks,
+            left_out,
+        }
+    }
+
+    /// The same one, where whoever watches wants to be told where federates stand.
+    pub fn with_looks(self) -> Teller {
+        let Teller {
+            to,
+            measures,
+            start,
+            left_out,
+            ..
+        } = self;
+        Teller {
+            to,
+            measures,
+            start,
+            wants_looks: true,
+            left_out,
         }
     }
 
@@ -69,12 +134,55 @@ impl Teller {
             Some(to) => to.clone().ok(),
             None => None,
         };
-        Teller::new(to, self.start)
+        let measures = match &self.measures {
+            Some(measures) => measures.clone().ok(),
+            None => None,
+        };
+        Teller {
+            to,
+            measures,
+            start: self.start,
+            wants_looks: self.wants_looks,
+            left_out: AtomicU64::new(0),
+        }
     }
 
     /// Whether anybody watches.
     pub fn is_watched(&self) -> bool {
         self.to.is_some()
+    }
+
+    /// Whether it is to be told now where federates stand: that is wanted, and all that was told before was taken. So
+    /// whoever is slow gets less, and what happens has its room.
+    pub(crate) fn wants_look(&self) -> bool {
+        match &self.to {
+            Some(to) => self.wants_looks && to.is_empty(),
+            None => false,
+        }
+    }
+
+    /// Hands on what a look says. What has no room is left out: the next look tells it again.
+    pub(crate) fn hand_on<R: Wait>(&self, rt: &R, told: Told) {
+        if let Some(to) = &self.to {
+            let _ = to.try_send(rt, told);
+        }
+    }
+
+    /// Has what is drawn of looks wiped, where they are wanted, before anything else is written. It waits for that, a
+    /// second at most: whoever draws may be stopped.
+    pub fn wipe<R: Wait + Clock>(&self, rt: &R, alloc: Global) {
+        if !self.wants_looks {
+            return;
+        }
+        let Some(to) = &self.to else {
+            return;
+        };
+        let Ok((wiped, until)) = bounded(alloc, 1) else {
+            return;
+        };
+        if to.try_send(rt, Told::Wipe(wiped)).is_ok() {
+            let _ = until.recv_timeout(rt, Duration::from_millis(WIPE_MS));
+        }
     }
 
     /// Tells the names of the federates. It is asked before anything happens: then there is room.
@@ -101,8 +209,19 @@ impl Teller {
         }
     }
 
-    // Since the node began.
-    fn millis<C: Clock>(&self, clock: &C) -> u64 {
+    /// Tells whoever measures the node that it is at this moment. There is room, unless there are more than these few.
+    pub fn measure<R: Wait, C: Clock>(&self, rt: &R, clock: &C, moment: Moment) {
+        if let Some(measures) = &self.measures {
+            let measured = Measured {
+                millis: self.millis(clock),
+                moment,
+            };
+            let _ = measures.try_send(rt, measured);
+        }
+    }
+
+    /// So many ms since the node began; 0 where nobody watches or measures.
+    pub(crate) fn millis<C: Clock>(&self, clock: &C) -> u64 {
         match self.start {
             Some(start) => start.elapsed(clock).map_or(
                 0,

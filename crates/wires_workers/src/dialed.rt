@@ -1,9 +1,8 @@
 //! The reader of a federate, which makes its connections itself.
 use crate::context::Context;
 use crate::gate::Gate;
-use crate::reader::{ConnectionEnd, read_connection};
+use crate::reader::{ConnectionEnd, Reading, read_connection};
 use crate::wake_ups::WakeUp;
-use desk::Share;
 use node::Node;
 use std::alloc::Global;
 use std::sync::Wait;
@@ -15,8 +14,8 @@ use wires_transports::{Accepted, Cut, Dial, Transport};
 /// What a federate's reader leaves.
 #[derive(Drop)]
 pub struct Dialed {
-    /// Its share of the journal.
-    pub share: Share,
+    /// What came to it.
+    pub reading: Reading,
     /// Whether the coordinator acknowledged a signal that was never offered to it. No coordinator of this federate's
     /// run does: one of the two was begun anew without what it knew.
     pub shows_other_history: bool,
@@ -31,13 +30,13 @@ pub fn read_dialed<R: Wait + Clock, N: Node, G: Gate, T: Transport, C: Cut, D: D
     context: &Context<'_, N, G, T, C>,
     dial: &D,
 ) -> Dialed {
-    let mut share = Share::new(alloc);
+    let mut reading = Reading::new(alloc);
     let mut shows_other_history = false;
     for _ in rt.forever() {
         if context.ending.is_set() || context.shared.is_closed(rt, 0) {
             break;
         }
-        match connect(rt, alloc, context, &mut share, dial) {
+        match connect(rt, alloc, context, &mut reading, dial) {
             ConnectionEnd::Heard => {}
             ConnectionEnd::Silent => tell_failure(rt, context),
             ConnectionEnd::Closed => break,
@@ -48,7 +47,7 @@ pub fn read_dialed<R: Wait + Clock, N: Node, G: Gate, T: Transport, C: Cut, D: D
         }
     }
     Dialed {
-        share,
+        reading,
         shows_other_history,
     }
 }
@@ -59,7 +58,7 @@ fn connect<R: Wait + Clock, N: Node, G: Gate, T: Transport, C: Cut, D: Dial<T, C
     rt: &R,
     alloc: Global,
     context: &Context<'_, N, G, T, C>,
-    share: &mut Share,
+    reading: &mut Reading,
     dial: &D,
 ) -> ConnectionEnd {
     match dial.dial(rt, alloc) {
@@ -68,7 +67,7 @@ fn connect<R: Wait + Clock, N: Node, G: Gate, T: Transport, C: Cut, D: Dial<T, C
                 connection,
                 first: Vec::new(alloc),
             };
-            read_connection(rt, alloc, context, share, 0, arrived)
+            read_connection(rt, alloc, context, reading, 0, arrived)
         }
         None => ConnectionEnd::Silent,
     }

@@ -23,6 +23,8 @@
 //!        |                           lock given up, WriterQueue::send
 //!        +-> Context::wake_up        the runner, where something was done in its absence
 //!
+//! What a reader and a writer leave says how much came and was sent (`wires_traffic`); each counts for itself.
+//!
 //! A run ends where `Ending` is set: runners stop and tell their writers, writers end what they send, readers come to
 //! the end of what was sent. Begin with `Context::take_in` in `handing_in`, then `retry_state`. What they rest on is in
 //! `gate`, `context` and `session`; the workers themselves are `reader`, `runner` and `writer`.
@@ -53,7 +55,7 @@ pub use context::Context;
 pub use dialed::{Dialed, read_dialed};
 pub use gate::{Gate, NoGate, Point};
 pub use handing_in::{Outcome, TakenIn};
-pub use reader::read;
+pub use reader::{Reading, read};
 pub use retry_state::{Next, RetryState};
 pub use side::Side;
 pub use turns::Turns;

@@ -17,6 +17,7 @@ use signal::FrameReader;
 use std::alloc::Global;
 use std::sync::{Arc, Wait};
 use std::time::Clock;
+use wires_traffic::{Counter, Counts, Traffic};
 use wires_transports::{Accepted, Connection, Cut, Transport};
 
 // Bytes of one read, at most: some 500 frames. What comes of them is one send to each peer, which wakes one thread
@@ -68,23 +69,70 @@ struct Received {
     shows_other_history: bool,
 }
 
-/// Reads a peer's connections one after the other, as they come, until no more come. Each is greeted first. Returns the
-/// reader's share of the journal.
+/// What a reader leaves of all its connections.
+#[derive(Drop)]
+pub struct Reading {
+    /// Its share of the journal.
+    pub share: Share,
+    // What came.
+    received: Counter,
+    // How many connections it read.
+    connections: u64,
+}
+
+impl Reading {
+    /// Nothing came so far.
+    pub(crate) fn new(alloc: Global) -> Reading {
+        Reading {
+            share: Share::new(alloc),
+            received: Counter::new(),
+            connections: 0,
+        }
+    }
+
+    /// What came, counted.
+    pub fn counts(&self) -> Counts {
+        Counts {
+            sent: Traffic::none(),
+            received: self.received.so_far(),
+            connections: self.connections,
+        }
+    }
+
+    // One more connection, of which so many bytes were read before.
+    fn begin(&mut self, bytes: usize) {
+        self.connections = self.connections.saturating_add(1);
+        if bytes > 0 {
+            self.received.read(bytes);
+        }
+    }
+
+    // The frames came of which these events are.
+    fn take(&mut self, events: &[Event]) {
+        for event in events {
+            if let Event::Frame(_, frame) = event {
+                self.received.take(frame);
+            }
+        }
+    }
+}
+
+/// Reads a peer's connections one after the other, as they come, until no more come. Each is greeted first.
 pub fn read<R: Wait + Clock, N: Node, G: Gate, T: Transport, C: Cut>(
     rt: &R,
     alloc: Global,
     context: &Context<'_, N, G, T, C>,
     peer: usize,
     arrivals: &Receiver<Accepted<T, C>>,
-) -> Share {
-    let mut share = Share::new(alloc);
+) -> Reading {
+    let mut reading = Reading::new(alloc);
     for _ in rt.forever() {
         let Ok(arrived) = arrivals.recv(rt) else {
             break;
         };
-        read_connection(rt, alloc, context, &mut share, peer, arrived);
+        read_connection(rt, alloc, context, &mut reading, peer, arrived);
     }
-    share
+    reading
 }
 
 /// Greets the peer on a new connection, and reads that to its end.
@@ -92,18 +140,18 @@ pub(crate) fn read_connection<R: Wait + Clock, N: Node, G: Gate, T: Transport, C
     rt: &R,
     alloc: Global,
     context: &Context<'_, N, G, T, C>,
-    share: &mut Share,
+    reading: &mut Reading,
     peer: usize,
     arrived: Accepted<T, C>,
 ) -> ConnectionEnd {
-    match greet(rt, context, share, peer) {
+    match greet(rt, context, &mut reading.share, peer) {
         Some(Reply::Done(greeting)) => {
             let greeted = Greeted {
                 peer,
                 arrived,
                 greeting,
             };
-            read_greeted(rt, alloc, context, share, greeted)
+            read_greeted(rt, alloc, context, reading, greeted)
         }
         Some(_) => {
             arrived.connection.cut.cut(rt);
@@ -135,7 +183,7 @@ fn read_greeted<R: Wait + Clock, N: Node, G: Gate, T: Transport, C: Cut>(
     rt: &R,
     alloc: Global,
     context: &Context<'_, N, G, T, C>,
-    share: &mut Share,
+    reading: &mut Reading,
     greeted: Greeted<T, C>,
 ) -> ConnectionEnd {
     let Greeted {
@@ -157,7 +205,7 @@ fn read_greeted<R: Wait + Clock, N: Node, G: Gate, T: Transport, C: Cut>(
             };
             writer.begin(rt, side, greeting);
             if !context.ending.is_set() {
-                end = read_begun(rt, alloc, context, share, peer, &mut incoming, &first);
+                end = read_begun(rt, alloc, context, reading, peer, &mut incoming, &first);
             }
         }
     }
@@ -170,11 +218,12 @@ fn read_begun<R: Wait + Clock, N: Node, G: Gate, T: Transport, C: Cut>(
     rt: &R,
     alloc: Global,
     context: &Context<'_, N, G, T, C>,
-    share: &mut Share,
+    reading: &mut Reading,
     peer: usize,
     incoming: &mut T,
     first: &[u8],
 ) -> ConnectionEnd {
+    reading.begin(first.len());
     let mut frames = FrameReader::new(alloc);
     if frames.feed(first).is_err() {
         return ConnectionEnd::Silent;
@@ -187,11 +236,11 @@ fn read_begun<R: Wait + Clock, N: Node, G: Gate, T: Transport, C: Cut>(
         events: Vec::new(alloc),
         shows_other_history: false,
     };
-    let before = share.slips().len();
-    read_on(rt, alloc, context, share, incoming, &mut received);
+    let before = reading.share.slips().len();
+    read_on(rt, alloc, context, reading, incoming, &mut received);
     if received.shows_other_history {
         ConnectionEnd::OtherHistory
-    } else if share.slips().len() > before {
+    } else if reading.share.slips().len() > before {
         ConnectionEnd::Heard
     } else {
         ConnectionEnd::Silent
@@ -204,7 +253,7 @@ fn read_on<R: Wait + Clock, N: Node, G: Gate, T: Transport, C: Cut>(
     rt: &R,
     alloc: Global,
     context: &Context<'_, N, G, T, C>,
-    share: &mut Share,
+    reading: &mut Reading,
     incoming: &mut T,
     received: &mut Received,
 ) {
@@ -214,8 +263,20 @@ fn read_on<R: Wait + Clock, N: Node, G: Gate, T: Transport, C: Cut>(
     let mut step = ReaderStep::HandIn;
     for _ in rt.forever() {
         step = match step {
-            ReaderStep::HandIn => take_some(rt, alloc, context, share, received),
-            ReaderStep::Read => read_more(rt, incoming, &mut room, &mut received.frames),
+            ReaderStep::HandIn => {
+                let next = take_some(rt, alloc, context, &mut reading.share, received);
+                reading.take(&received.events);
+                next
+            }
+            ReaderStep::Read => {
+                read_more(
+                    rt,
+                    incoming,
+                    &mut room,
+                    &mut received.frames,
+                    &mut reading.received,
+                )
+            }
             ReaderStep::End => break,
         };
     }
@@ -227,13 +288,17 @@ fn read_more<R: Wait, T: Transport>(
     incoming: &mut T,
     room: &mut [u8],
     frames: &mut FrameReader,
+    counter: &mut Counter,
 ) -> ReaderStep {
     match incoming.recv(rt, room) {
         Ok(0) | Err(_) => ReaderStep::End,
-        Ok(count) => match frames.feed(&room[..count]) {
-            Ok(()) => ReaderStep::HandIn,
-            Err(_) => ReaderStep::End,
-        },
+        Ok(count) => {
+            counter.read(count);
+            match frames.feed(&room[..count]) {
+                Ok(()) => ReaderStep::HandIn,
+                Err(_) => ReaderStep::End,
+            }
+        }
     }
 }
 

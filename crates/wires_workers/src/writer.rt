@@ -5,13 +5,14 @@ ghost use Rattle.wires_workers.specs.Waiting.{fresh, emptied, with_frame, covers
 use crate::side::Side;
 use crate::writer_queue::WriterQueue;
 use node::Outgoing;
-use signal::wire::FIRST_VERSION;
+use signal::wire::{BATCHING, FIRST_VERSION};
 use signal::{Frame, Memory, write_frames};
 use std::alloc::Global;
 use std::marker::Model;
 use std::sync::Wait;
 use std::thread;
 use std::time::Clock;
+use wires_traffic::{Counter, Traffic};
 use wires_transports::{Cut, Ending, Transport};
 
 /// A writer: the connection on which it writes, if there is one, and the frames that it writes next. Of Acks that a
@@ -27,6 +28,8 @@ pub struct Writer<T: Drop, C: Drop> {
     ack: Option<Frame>,
     // Room for the bytes of a send.
     bytes: Vec<u8>,
+    // What was sent so far, on all connections.
+    sent: Counter,
 }
 
 impl<T: Drop, C: Drop> Model for Writer<T, C> {
@@ -53,6 +56,7 @@ impl<T: Transport, C: Cut> Writer<T, C> {
             frames: Vec::new(alloc),
             ack: None,
             bytes: Vec::new(alloc),
+            sent: Counter::new(),
         }
     }
 
@@ -92,7 +96,7 @@ impl<T: Transport, C: Cut> Writer<T, C> {
     }
 
     /// Sends all that is to be written, at once. A connection that fails is cut. Where there is no memory for the
-    /// bytes, the frames are lost, as on a line that loses frames.
+    /// bytes, the frames are lost, as on a line that loses frames. What is handed to a connection is counted.
     pub fn flush<R: Wait>(&mut self, rt: &R)
         ensures { self.new ≡ emptied self.old }
     {
@@ -104,6 +108,10 @@ impl<T: Transport, C: Cut> Writer<T, C> {
             self.peer,
             &mut self.bytes,
         );
+        if self.side.is_some() && !self.bytes.is_empty() {
+            let in_batches = self.own >= BATCHING && self.peer >= BATCHING;
+            self.sent.send(&self.frames, self.bytes.len(), in_batches);
+        }
         let has_failed = match &mut self.side {
             Some(side) if !self.bytes.is_empty() => side.transport.send(rt, &self.bytes).is_err(),
             _ => false,
@@ -131,6 +139,11 @@ impl<T: Transport, C: Cut> Writer<T, C> {
         if let Some(side) = &mut self.side {
             side.transport.finish(rt);
         }
+    }
+
+    /// What was sent so far, on all connections.
+    pub fn sent(&self) -> Traffic {
+        self.sent.so_far()
     }
 
     /// Puts frames behind what is written next. A frame for which there is no memory is lost, as on a line that loses
@@ -183,14 +196,14 @@ fn covers(frame: &Frame, ack: &Frame) -> bool
 
 /// Writes what is waiting and nobody else writes, each time in one send, until the run is to end, by this version of
 /// frames: 1, or 2 or more with Batches where the peer reads them. Acks alone, while they are few, wait a little for
-/// other frames. What was asked before the end is still written.
+/// other frames. What was asked before the end is still written. Returns what was sent, by whomever.
 pub fn write<R: Wait + Clock, T: Transport, C: Cut>(
     rt: &R,
     alloc: Global,
     queue: &WriterQueue<T, C>,
     ending: &Ending,
     own: u8,
-) {
+) -> Traffic {
     queue.open(rt, alloc, own.max(FIRST_VERSION));
     let mut is_late = false;
     for _ in rt.forever() {
@@ -206,5 +219,5 @@ pub fn write<R: Wait + Clock, T: Transport, C: Cut>(
         // What is asked until others have run is written in the same send.
         thread::yield_now();
     }
-    queue.finish(rt);
+    queue.finish(rt)
 }

@@ -21,6 +21,7 @@ use std::alloc::{AllocError, Global};
 use std::sync::atomic::{AtomicBool, Ordering};
 use std::sync::{Mutex, Wait};
 use std::time::{Clock, Duration};
+use wires_traffic::Traffic;
 use wires_transports::times::{ACK_WAIT_MS, WRITER_WAIT_MS};
 use wires_transports::{Cut, Transport};
 
@@ -224,11 +225,15 @@ impl<T: Transport, C: Cut> WriterQueue<T, C> {
         (waiting.take(is_late, frames), looks_soon)
     }
 
-    /// The writer ends what is sent, and lets the connection go: nobody sends any more.
-    pub fn finish<R: Wait>(&self, rt: &R) {
+    /// The writer ends what is sent, and lets the connection go: nobody sends any more. Returns what was sent.
+    pub fn finish<R: Wait>(&self, rt: &R) -> Traffic {
         let mut place = self.active.lock(rt);
-        if let Some(mut active) = place.take() {
-            active.writer.finish(rt);
+        match place.take() {
+            Some(mut active) => {
+                active.writer.finish(rt);
+                active.writer.sent()
+            }
+            None => Traffic::none(),
         }
     }
 }

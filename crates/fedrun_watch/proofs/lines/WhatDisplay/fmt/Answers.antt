@@ -6,9 +6,4 @@ use Rattle.fedrun_watch.proofs.lines.WhatDisplay.fmt.Goals as goal
 pub returns-in-LetIn-clause-writes : goal.returns-in-LetIn-clause-writes
 returns-in-LetIn-clause-writes g c = λ plain done.
     has_written_of_eq _ _ _ _ _ (sym (ap (what_text c.args.self.now.names.now) c.in-LetIn.is))
-    (c.write.ensures.writes plain done)
-
-pub returns-in-Lost-clause-writes : goal.returns-in-Lost-clause-writes
-returns-in-Lost-clause-writes g c = λ plain done.
-    has_written_of_eq _ _ _ _ _ (sym (ap (what_text c.args.self.now.names.now) c.in-Lost.is))
-    (c.write-in-Lost.ensures.writes plain done)
+    (c.write-in-LetIn.ensures.writes plain done)

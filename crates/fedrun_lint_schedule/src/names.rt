@@ -5,7 +5,7 @@ use std::alloc::{AllocError, Global};
 use std::fmt;
 
 /// The names of a plan's federates.
-pub(crate) fn federate_names(alloc: Global, plan: &Plan) -> Result<Vec<&str>, AllocError> {
+pub fn federate_names(alloc: Global, plan: &Plan) -> Result<Vec<&str>, AllocError> {
     let mut names = Vec::new(alloc);
     for federate in plan.federates() {
         names.push(federate.name.as_str()).map_err(|_| AllocError)?;
@@ -15,7 +15,7 @@ pub(crate) fn federate_names(alloc: Global, plan: &Plan) -> Result<Vec<&str>, Al
 
 /// A name that isn't there, those that are, and which of them may be meant.
 #[derive(Clone, Copy)]
-pub(crate) struct NoSuchName<'a> {
+pub struct NoSuchName<'a> {
     /// What has names.
     pub kind: &'static str,
     pub name: &'a str,
@@ -55,7 +55,7 @@ impl fmt::Display for Listed<'_> {
 }
 
 /// Which of these names may be meant by one that isn't there: the one that is fewest edits away, if these are few.
-pub(crate) fn meant_name<'a>(alloc: Global, wrong: &str, names: &[&'a str]) -> Option<&'a str> {
+pub fn meant_name<'a>(alloc: Global, wrong: &str, names: &[&'a str]) -> Option<&'a str> {
     let mut meant = None;
     let mut fewest = usize::MAX;
     for name in names {

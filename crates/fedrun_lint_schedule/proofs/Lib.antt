@@ -1,0 +1,2 @@
+-- a refusal agrees with the reader of schedules
+pub mod Agreement

@@ -1,0 +1,161 @@
+//! What is wrong in a schedule: the fault that the reading of the whole file answers, and the further lines that are
+//! refused by themselves.
+ghost use Rattle.std.specs.Prelude.{◌≡◌, IfOk};
+ghost use Rattle.fedrun_lint_schedule.specs.Refused.{AgreesOnSchedule};
+
+use crate::bad_line::{is_of_other_file, renamed, why_refused};
+use crate::names::federate_names;
+use crate::refusal::{ScheduleFinding, ScheduleRefusal};
+use files_script::{MOST_BYTES, ScriptFault, read_script};
+use loadfed::load;
+use plan::Plan;
+use std::alloc::{AllocError, Global};
+
+/// The most lines that are told of a schedule.
+const MOST_LINES: usize = 100;
+
+/// A federation whose one federate stands for any where it isn't known which there are, and this federate's name.
+const ANY_FEDERATION: &str = "stop = \"0\"\nfederate = [{ name = \"a\" }]";
+
+const ANY_FEDERATE: &str = "a";
+
+/// The bad lines of a schedule, and whether there are more than are told.
+type Found = (Vec<ScheduleFinding>, bool);
+
+/// Why a schedule of this plan is refused, if it is.
+pub fn look_at_schedule(
+    alloc: Global,
+    schedule: &[u8],
+    plan: &Plan,
+) -> Result<Option<ScheduleRefusal>, AllocError>
+    ensures { IfOk result (AgreesOnSchedule plan.now schedule.now) }
+{
+    match read_script(alloc, schedule, plan) {
+        Ok(_) => Ok(None),
+        Err(ScriptFault::Memory) => Err(AllocError),
+        Err(fault) => Ok(Some(refusal_of_schedule(alloc, schedule, plan, fault)?)),
+    }
+}
+
+/// Why a schedule of this plan is refused that has this fault.
+pub fn refusal_of_schedule(
+    alloc: Global,
+    schedule: &[u8],
+    plan: &Plan,
+    fault: ScriptFault,
+) -> Result<ScheduleRefusal, AllocError>
+    ensures { IfOk result (λ refusal. refusal.first.fault ≡ fault) }
+{
+    let federates = federate_names(alloc, plan)?;
+    let reader = Reader {
+        alloc,
+        plan,
+        federates: Some(federates.as_slice()),
+    };
+    let found = reader.bad_lines(up_to(schedule, MOST_BYTES))?;
+    Ok(refusal_of(alloc, fault, found))
+}
+
+/// Why a schedule is refused whatever federates there are, if it is: for its length, or for lines of no form.
+pub fn look_at_form(alloc: Global, schedule: &[u8]) -> Result<Option<ScheduleRefusal>, AllocError> {
+    if schedule.len() > MOST_BYTES {
+        return Ok(Some(ScheduleRefusal::too_long(alloc)));
+    }
+    let Ok((plan, _programs)) = load(alloc, ANY_FEDERATION.as_bytes()) else {
+        return Err(AllocError);
+    };
+    let reader = Reader {
+        alloc,
+        plan: &plan,
+        federates: None,
+    };
+    let found = reader.bad_lines(schedule)?;
+    Ok(refusal_if_any(alloc, found))
+}
+
+// Why a schedule is refused that has these bad lines.
+fn refusal_if_any(alloc: Global, found: Found) -> Option<ScheduleRefusal> {
+    let fault = found.0.first()?.fault;
+    Some(refusal_of(alloc, fault, found))
+}
+
+// Why a schedule is refused that has this fault: it is told as that of the first bad line, and where there is none, as
+// one of the whole file.
+fn refusal_of(alloc: Global, fault: ScriptFault, found: Found) -> ScheduleRefusal
+    ensures { result.first.fault ≡ fault }
+{
+    let (mut more, is_cut) = found;
+    let first = if more.is_empty() {
+        ScheduleFinding::of_whole_file(alloc, fault)
+    } else {
+        more.remove(0).of(fault)
+    };
+    ScheduleRefusal {
+        first,
+        more,
+        is_cut,
+    }
+}
+
+// A file's bytes, but none of one that is longer than it may be.
+fn up_to(bytes: &[u8], most: usize) -> &[u8] {
+    if bytes.len() > most { &[] } else { bytes }
+}
+
+/// How the lines of a schedule are looked at, each by itself.
+#[derive(Clone, Copy)]
+struct Reader<'a> {
+    alloc: Global,
+    plan: &'a Plan,
+    /// The names of the plan's federates; none where these aren't the schedule's, and any name may be that of one.
+    federates: Option<&'a [&'a str]>,
+}
+
+impl Reader<'_> {
+    // The lines that are bad, up to as many as are told; of a file that is TOML or UTF-16 up to the first one of it.
+    fn bad_lines(self, schedule: &[u8]) -> Result<Found, AllocError> {
+        let mut found = Vec::new(self.alloc);
+        let mut number = 0usize;
+        for line in schedule.split(|byte| *byte == b'\n') {
+            number = number.saturating_add(1);
+            if self.is_bad(line)? {
+                if found.len() >= MOST_LINES {
+                    return Ok((found, true));
+                }
+                found.push(self.finding(number, line)?)?;
+                if is_of_other_file(line) {
+                    return Ok((found, false));
+                }
+            }
+        }
+        Ok((found, false))
+    }
+
+    // Whether a line spells no command, and isn't idle either.
+    fn is_bad(self, line: &[u8]) -> Result<bool, AllocError> {
+        if self.federates.is_some() {
+            return is_refused(self.alloc, line, self.plan);
+        }
+        let line = renamed(self.alloc, line, ANY_FEDERATE)?;
+        is_refused(self.alloc, line.as_slice(), self.plan)
+    }
+
+    // What is told of the line of this number, which is bad.
+    fn finding(self, number: usize, line: &[u8]) -> Result<ScheduleFinding, AllocError> {
+        let (what, advice) = why_refused(self.alloc, line, self.federates)?;
+        Ok(ScheduleFinding {
+            fault: ScriptFault::ScheduleLine(number),
+            what,
+            advice,
+        })
+    }
+}
+
+// Whether a line is refused as a schedule of this plan.
+fn is_refused(alloc: Global, line: &[u8], plan: &Plan) -> Result<bool, AllocError> {
+    match read_script(alloc, line, plan) {
+        Ok(_) => Ok(false),
+        Err(ScriptFault::Memory) => Err(AllocError),
+        Err(_) => Ok(true),
+    }
+}

@@ -1,0 +1,3 @@
+-- Lemmas.
+-- what is saved in place of a file
+pub mod Replaced

@@ -1,0 +1,4 @@
+-- How it is printed that what was measured isn't saved.
+pub mod Fault
+-- What becomes of files where what was measured is saved.
+pub mod Saved

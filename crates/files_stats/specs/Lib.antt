@@ -1,0 +1,2 @@
+-- The text of the file that `--stats` saves.
+pub mod Stats

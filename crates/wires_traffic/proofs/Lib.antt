@@ -1,0 +1,3 @@
+-- Lemmas.
+-- frames that are counted one after the other
+pub mod Counted

@@ -1,0 +1,4 @@
+-- What each frame is counted as, and how many there are of a kind.
+pub mod Kinds
+-- Counts by kind, and sums of counts.
+pub mod Sums
