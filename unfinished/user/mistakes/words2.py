@@ -1,0 +1,38 @@
+from runner import *
+J='fedrun join tank.toml - logger --report l.report --secret secret --connect '
+W = [
+('W19','em dash in place of two hyphens','fedrun run tank.toml - \u2014turns 500'),
+('W20','one hyphen','fedrun run tank.toml - -turns 500'),
+('W21','--hints never (space)','fedrun --hints never whole tank.toml - 10'),
+('W22','--hints behind the command','fedrun whole tank.toml - 10 --hints'),
+('W23','--hints=always','fedrun --hints=always whole tank.toml - 10'),
+('W24','shell that there isnt','fedrun completions powershell'),
+('W25','capital','fedrun Whole tank.toml - 10'),
+('W26','IN of check','fedrun check tank.toml rain.toml'),
+('W27','--each without quotes','fedrun expand ring.toml --each nodes in 1..3 -o .'),
+('W28','--each with a hyphen','fedrun expand ring.toml --each "nodes in 1-3" -o .'),
+('W29','-o forgotten','fedrun expand ring.toml --each "nodes in 1..3"'),
+('W30','parameter misspelt','fedrun expand ring.toml node=8'),
+('W31','value is no number','fedrun expand ring.toml nodes=eight'),
+('W32','--until stuck','fedrun replay tank.toml rain.toml tank.schedule --until stuck 50'),
+('W33','IPv6 without brackets',J+'fd00::1:7000'),
+('W34','port forgotten',J+'plant'),
+('W35','port too large',J+'10.0.0.1:70000'),
+('W36','* as address','fedrun coordinate tank.toml - --listen "*:7000" --report c.report --secret secret'),
+('W37','address and port as two words',J+'10.0.0.1 7000'),
+('W38','--sync disc','fedrun join tank.toml - logger --report l.report --connect 127.0.0.1:7000 --sync disc'),
+('W39','--from above --to','fedrun draw tank.toml rain.toml tank.schedule --from 9 --to 3'),
+('W40','fed0 version','fedrun version'),
+('W41','all files by a star','fedrun whole *.toml 10'),
+('W42','--listen of join','fedrun join tank.toml - logger --listen 127.0.0.1:7000 --report l.report'),
+('W43','report forgotten','fedrun join tank.toml - logger --connect 127.0.0.1:7000'),
+('W44','--to of a folder in draw / output file','fedrun draw tank.toml -o tank.svg'),
+('W45','help of what isnt there','fedrun help joins'),
+('W46','negative turns','fedrun whole tank.toml - -1'),
+('W47','too large','fedrun run tank.toml - --turns 5000000000'),
+('W48','host name ending with a digit',J+'plant.10:7000'),
+('W49','user@host as of ssh',J+'pi@plant:7000'),
+('W50','host name with port by slash / trailing slash',J+'plant.example:7000/'),
+]
+if __name__ == '__main__':
+    for w in W: run(*w)

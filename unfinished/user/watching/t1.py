@@ -1,0 +1,13 @@
+from base import *
+r,c,a,b=begin('t1-link')
+c.type(C('--log')); r.sleep(.7); a.type(J('src','--log')); r.sleep(.5); b.type(J('snk','--log --progress --stats snk.stats'))
+r.sleep(10)
+r.note('LINK of plant2 DOWN'); link(3,False)
+for i in range(3): r.sleep(.95); r.snap('plant2',tail=3)
+link(3,True); r.note('LINK of plant2 UP')
+for i in range(4): r.sleep(1); r.snap('plant2',tail=2)
+r.sleep(6)
+r.note('LINK of plant2 DOWN (for 12 s)'); link(3,False); r.sleep(5.8); r.snap('plant2',tail=4); r.sleep(6.2)
+link(3,True); r.note('LINK of plant2 UP'); r.sleep(5); r.snap('plant2',tail=4)
+r.idle('coord',120); r.idle('plant1',20); r.idle('plant2',20); r.sleep(.5)
+r.end()

@@ -1,0 +1,10 @@
+from base import *
+r,c,a,b=begin('t11-link-longer-than-patience')
+cc=C('--log',pat=15); c.type(cc); r.sleep(.7); aa=J('src','--log',pat=15); a.type(aa); r.sleep(.5); bb=J('snk','--log --stats snk.stats',pat=15); b.type(bb)
+r.sleep(6); r.note('LINK of plant2 DOWN'); link(3,False)
+r.idle('plant1',40); r.note('plant1 has ended'); r.idle('plant2',40); r.sleep(1); r.snap(tail=12)
+link(3,True); r.note('LINK of plant2 UP'); r.sleep(1)
+b.type(bb); r.sleep(1); r.snap('coord',tail=4); r.sleep(3)
+a.type(aa); r.sleep(4); r.snap(tail=10)
+r.idle('coord',100); r.idle('plant1',20); r.idle('plant2',20); r.sleep(.4)
+r.end(); print(open('plant2/snk.stats').read()[:150])

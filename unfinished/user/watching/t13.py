@@ -1,0 +1,11 @@
+from base import *
+r,c,a,b=begin('t13-a-minute-of-nobody')
+open('plant2/snk.stats','w').write('command = "join"\nstatus = 0\n# of an earlier run\n')
+srv=subprocess.Popen(['ip','netns','exec','u4c','python3','-c','import socket,time\ns=socket.create_server(("10.77.4.1",7005))\nl=[]\nwhile 1: l.append(s.accept())'])
+c.type(C('--log --stats c.stats').replace(' --patience 30','')); r.sleep(.3)
+a.type(J('src','--log',addr='10.77.4.1:7005').replace(' --patience 30','')); b.type(J('snk','--log --stats snk.stats',addr='coordinator.plant:7000').replace(' --patience 30',''))
+r.sleep(62)
+for x in (a,b,c): x.keys(b'\x03','Ctrl-C')
+r.sleep(1); srv.terminate(); srv.wait()
+r.note(open('plant2/snk.stats').read().replace('\n',' / ')+str(os.listdir('plant2')))
+r.end()

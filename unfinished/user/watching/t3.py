@@ -1,0 +1,10 @@
+from base import *
+r,c,a,b=begin('t3-kill-federate')
+c.type(C('--log --progress')); r.sleep(.7); cmd=J('src','--log --progress --stats src.stats'); a.type(cmd); r.sleep(.5); b.type(J('snk','--log'))
+r.sleep(8)
+a.sig(signal.SIGKILL); r.sleep(1.5); r.snap(tail=4); r.note('files: '+str(os.listdir('plant1')))
+r.sleep(6.5); r.snap(tail=6)
+a.type(cmd); r.sleep(4); r.snap(tail=8)
+r.sleep(3); r.note('now: kill snk and start it within 1 s'); b.sig(signal.SIGKILL); r.sleep(.6); b.type(J('snk','--log')); r.sleep(3); r.snap('plant2',tail=8)
+r.idle('coord',120); r.idle('plant1',20); r.idle('plant2',20); r.sleep(.5)
+r.end(); print(os.listdir('plant1')); print(open('plant1/src.stats').read()[:400])

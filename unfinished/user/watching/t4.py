@@ -1,0 +1,11 @@
+from base import *
+r,c,a,b=begin('t4-kill-coordinator')
+cc=C('--log --progress --stats c.stats'); c.type(cc); r.sleep(.7); a.type(J('src','--log --progress')); r.sleep(.5); b.type(J('snk','--log'))
+r.sleep(8)
+c.sig(signal.SIGKILL); r.sleep(1.5); r.snap(tail=6); r.note('files: '+str(os.listdir('coord')))
+r.sleep(7); r.snap('plant1','plant2',tail=12)
+c.type(cc); r.sleep(4); r.snap(tail=12)
+r.note('now the coordinator is ended by Ctrl-C'); c.keys(b'\x03','Ctrl-C'); r.sleep(2.5); r.snap(tail=6); r.note('files: '+str(os.listdir('coord')))
+c.type(cc); r.sleep(3); r.snap('coord',tail=8)
+r.idle('coord',120); r.idle('plant1',20); r.idle('plant2',20); r.sleep(.5)
+r.end(); print(open('coord/c.stats').read()[:200])

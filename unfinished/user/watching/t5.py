@@ -1,0 +1,10 @@
+from base import *
+r,c,a,b=begin('t5-wrong-secret')
+c.type(C('--log')); r.sleep(.7); a.type(J('src','--log')); r.sleep(.5)
+b.type(J('snk','--log --progress --stats snk.stats',secret='secret.wrong',pat=8)); r.sleep(6); r.snap(tail=8)
+r.idle('plant2',30); r.sleep(.5); r.snap('plant2',tail=12); r.note('files: '+str(os.listdir('plant2')))
+if os.path.exists('plant2/snk.stats'): r.note(open('plant2/snk.stats').read()[:120].replace('\n',' / '))
+r.sleep(1)
+r.note('now by the right secret, with the log that is there'); b.type(J('snk','--log --progress --stats snk.stats')); r.sleep(4); r.snap(tail=6)
+r.idle('coord',120); r.idle('plant1',20); r.idle('plant2',20); r.sleep(.5)
+r.end(); print(os.listdir('plant2'))
