@@ -1,4 +1,4 @@
-ghost use Rattle.std.specs.Prelude.{◌≡◌, ◌<◌, ℕ, IfOk, length};
+ghost use Rattle.std.specs.Prelude.{◌≡◌, IfOk};
 ghost use Rattle.protocol.specs.FederateRecord.{initial_federate_record};
 ghost use Rattle.protocol.specs.FederateRecords.{federate_record_at, federate_records_listed};
 ghost use Rattle.signal.specs.Signal.{IsSignal};
@@ -55,10 +55,9 @@ impl<'a> Coordinator<'a> {
         })
     }
 
-    /// The tag of a federate's last LTC, if one came. It is asked of a federate that is there; of others none is known.
+    /// The tag of a federate's last LTC, if one came. Of a federate that isn't there none is known.
     pub fn completed(&self, federate: usize) -> Option<FiniteTag>
-        ensures { federate < length self.now.federate_records
-            → result ≡ (federate_record_at self.now.federate_records federate).completed }
+        ensures { result ≡ (federate_record_at self.now.federate_records federate).completed }
     {
         // For the prover: a record for each federate.
         self.state.table.invariant();
@@ -69,10 +68,9 @@ impl<'a> Coordinator<'a> {
         }
     }
 
-    /// The last TAG to a federate, if there was one. It is asked of a federate that is there; of others none is known.
+    /// The last TAG to a federate, if there was one. Of a federate that isn't there none is known.
     pub fn granted(&self, federate: usize) -> Option<FiniteTag>
-        ensures { federate < length self.now.federate_records
-            → result ≡ (federate_record_at self.now.federate_records federate).granted }
+        ensures { result ≡ (federate_record_at self.now.federate_records federate).granted }
     {
         // For the prover: a record for each federate.
         self.state.table.invariant();

@@ -20,7 +20,7 @@ use fedrun_hosts::{NodeAnswer, asks_for_node, node_answer, read_node_words};
 use fedrun_lint_source::{asks_for_source_lint, lint_source_command};
 use fedrun_logs::{LogDisk, MachineLogs};
 use fedrun_progress::{NoProgress, Progress, ProgressLine, asks_for_progress};
-use fedrun_stats::{NodeMeasures, RunMeasures, StatsFault, begin_stats, drop_stats, end_stats};
+use fedrun_stats::{NodeMeasures, RunMeasures, StatsFault, begin_stats, end_stats};
 use fedrun_watch::{View, show, view_asked};
 use fedrun_whole::given;
 use fedrun_words::{Fault, asks_for_version, print_text, read_words, refuse, stats_file};
@@ -139,6 +139,7 @@ fn measure_command<
         + Wait
         + Clock
         + Net<Stream = TcpStream, Listener = TcpListener>
+        + RandomSource
         + Sync,
     F: Files + Drop,
     D: Disk,
@@ -158,21 +159,53 @@ fn measure_command<
         Some(name) if read_words(rt.alloc(), words).is_ok() => name,
         _ => return run_command(rt, words, files, out, err, progress),
     };
-    if let Err(fault) = begin_stats(rt.alloc(), name, files, saved) {
-        progress.end();
-        return refuse_stats(fault, files, err);
-    }
+    let drawn = match begin_measuring(rt, name, files, saved) {
+        Ok(drawn) => drawn,
+        Err(fault) => {
+            progress.end();
+            return refuse_stats(fault, files, err);
+        }
+    };
     let measures = RunMeasures::new(rt, progress);
     let status = run_command(rt, words, files, out, err, &measures);
     end_stats(
         rt.alloc(),
         name,
+        drawn,
         measures.stats(status),
         status,
         files,
         saved,
         err,
     )
+}
+
+// Sees to it that what is measured can be saved under this name, and answers the number by which the temporary file is
+// called. What is read there isn't noted: it is no file of the command's.
+fn begin_measuring<'a, R: AllocGlobal + RandomSource, F: Files + Drop, D: Disk>(
+    rt: &R,
+    name: &'a str,
+    files: &mut NotedFiles<F>,
+    saved: &mut D,
+) -> Result<u32, StatsFault<'a>> {
+    let drawn = drawn_number(rt);
+    let is_noting = files.is_noting;
+    files.is_noting = false;
+    let begun = begin_stats(rt.alloc(), name, drawn, files, saved);
+    files.is_noting = is_noting;
+    match begun {
+        Ok(()) => Ok(drawn),
+        Err(fault) => Err(fault),
+    }
+}
+
+// A number that hardly another process draws; 0 where the machine gives no random bytes.
+fn drawn_number<S: RandomSource>(random: &S) -> u32 {
+    let mut bytes = [0; 4];
+    if random.fill_bytes(&mut bytes).is_err() {
+        bytes = [0; 4];
+    }
+    u32::from_be_bytes(bytes)
 }
 
 // Says that nothing is begun, since what is measured couldn't be saved, and what to do.
@@ -251,17 +284,17 @@ fn measure_node<
         Some(name) if read_node_words(rt.alloc(), words).is_ok() => name,
         _ => return run_node(rt, words, files, disk, logs, out, err, shown, None),
     };
-    if let Err(fault) = begin_stats(rt.alloc(), name, files, saved) {
-        return refuse_stats(fault, files, err);
-    }
+    let drawn = match begin_measuring(rt, name, files, saved) {
+        Ok(drawn) => drawn,
+        Err(fault) => return refuse_stats(fault, files, err),
+    };
     match NodeMeasures::new(rt, rt.alloc()) {
         Ok((measures, to)) => {
             let status = run_node(rt, words, files, disk, logs, out, err, shown, Some(to));
             let stats = measures.stats(rt, status);
-            end_stats(rt.alloc(), name, stats, status, files, saved, err)
+            end_stats(rt.alloc(), name, drawn, stats, status, files, saved, err)
         }
         Err(_) => {
-            drop_stats(rt.alloc(), name, saved);
             let why = SaveFault::CannotWrite;
             refuse(&Fault::More(StatsFault { name, why }), err).status
         }

@@ -424,15 +424,26 @@ fn tip_on_word(command: &CommandWords, word: &str) -> Option<&'static str> {
     }
 }
 
-// Whether a word is an option of a command, by its name or its letter.
+// Whether a word is an option of a command.
 fn has_option(command: &CommandWords, word: &str) -> bool {
-    command.options.iter().any(|option| {
-        let is_named = match word.strip_prefix("--") {
-            Some(name) => name == option.name,
-            None => false,
-        };
-        is_named || (option.letter.is_some() && word == "-o")
-    })
+    command
+        .options
+        .iter()
+        .any(|option| names_option(word, option))
+}
+
+// Whether a word is this option, by its name or its letter.
+fn names_option(word: &str, option: &OptionWords) -> bool {
+    if let Some(name) = word.strip_prefix("--") {
+        return name == option.name;
+    }
+    match (word.strip_prefix('-'), option.letter) {
+        (Some(word), Some(letter)) => {
+            word.strip_prefix(letter)
+                .is_some_and(|behind| behind.is_empty())
+        }
+        _ => false,
+    }
 }
 
 fn begins_with_dash(word: &str) -> bool {
@@ -449,6 +460,9 @@ fn is_negative(word: &str) -> bool {
 
 // The same of a number behind all arguments of a command that limits turns by an option.
 fn tip_on_number(command: &CommandWords, words: &[String]) -> Option<&'static str> {
+    if words_in_order(words) <= command.arguments.len() {
+        return None;
+    }
     let further = words.get(command.arguments.len().saturating_add(1))?;
     let limits_turns = command.options.iter().any(|option| option.name == "turns");
     if limits_turns && count(further.as_str()).is_some() {

@@ -63,7 +63,7 @@ const ROOM: &str = "look at the room on the disk and at the folder's permissions
 pub(crate) fn advice_on_stats(why: SaveFault) -> &'static str {
     match why {
         SaveFault::Exists => {
-            "something that --stats didn't make has this name, or this name with .part behind it, or what has it can't be read: give another name; nothing was begun"
+            "something that --stats didn't save has this name, or what has it can't be read: give another name; nothing was begun"
         }
         SaveFault::CannotLook | SaveFault::CannotCreate => FOLDER,
         SaveFault::CannotWrite | SaveFault::CannotSync | SaveFault::CannotRename => ROOM,

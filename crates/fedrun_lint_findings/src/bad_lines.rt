@@ -516,6 +516,7 @@ fn part_of_schedule<'a>(tokens: &[&'a str]) -> Option<BadPart<'a>> {
         ),
         _ if tokens.len() < 3 => BadPart::of("schedule", SCHEDULED),
         [action, ..] if begins_as_number(*action) => BadPart::of("schedule", SCHEDULED),
+        [action, ..] if !is_name(action.as_bytes()) => BadPart::of(*action, NO_ACTION),
         [_, _, unit] if is_one_of(*unit, UNITS) => BadPart::of(
             *unit,
             "ends the delay, and a value is missing behind it, as schedule act 5 ms 7",
@@ -536,6 +537,9 @@ fn part_of_schedule<'a>(tokens: &[&'a str]) -> Option<BadPart<'a>> {
         ),
     }
 }
+
+const NO_ACTION: &str =
+    "is no action's name: that is 1 to 32 ASCII letters, digits and _, the first no digit, and no word of the forms; it stands alone, as schedule act 5 ms 7";
 
 const NO_DELAY: &str =
     "begins no delay: that is digits and ns, us, ms or s, as 5 ms, or 0; it is below 2^62 ns";

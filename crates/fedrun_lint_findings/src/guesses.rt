@@ -344,7 +344,8 @@ fn known_of<'a>(wrong: &Name<'a>, names: &KnownNames<'_>) -> Known<'a> {
     if wrong.is_behind(&["in", "has"], "startup") {
         return Known::Other(WITHOUT_STARTUP);
     }
-    if wrong.is_of_output() && names.has(&wrong.behind("")) {
+    // actions alone are there without a front, and behind in. too
+    if wrong.is_of_output() && names.has(&wrong.behind("")) && names.has(&wrong.behind("in")) {
         return Known::Other(OF_ACTION);
     }
     for (front, use_of_it) in USES {

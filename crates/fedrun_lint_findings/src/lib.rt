@@ -40,3 +40,4 @@ pub use oddity::{Oddity, OddityLines, Why};
 pub use refusal::{Refusal, RefusalLines};
 pub use refusing::{refusal_of_federation, refusal_of_inputs};
 pub use surveys::odd_of;
+pub use texts::STEPS;

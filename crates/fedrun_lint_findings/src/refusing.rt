@@ -7,7 +7,7 @@ use crate::finding::{Finding, advice_of};
 use crate::inputs::look_at_inputs;
 use crate::look::Look;
 use crate::refusal::Refusal;
-use crate::texts::{ADVICE_ON_BRACKET, advice_on_text, begins_outside, line_at};
+use crate::texts::{ADVICE_ON_BRACKET, advice_on_text, leaves_open, line_at};
 use crate::walk::{line_feeds, open_array, tree_of};
 use loadfed::{LoadFault, MOST_BYTES, MOST_INPUT_BYTES};
 use plan::Plan;
@@ -125,7 +125,7 @@ fn stop_with(alloc: Global, bytes: &[u8], error: &Error) -> Result<Stop, AllocEr
     let text = std::str::from_utf8(bytes).unwrap_or("");
     let line = line_at(text, span.start);
     let message = error.message();
-    let open = if begins_outside(line) {
+    let open = if leaves_open(text, span.start) {
         open_array(alloc, before, number)?
     } else {
         None

@@ -8,7 +8,7 @@ use crate::line_words::UNITS;
 const REPORT: &[u8] = b"fedrep ";
 
 /// The first words of the lines of a schedule.
-const STEPS: &[&str] = &[
+pub const STEPS: &[&str] = &[
     "announce",
     "advance",
     "deliver",
@@ -127,24 +127,44 @@ fn begins_with_step(line: &str) -> bool {
     is_one_of(first, STEPS) && !rest.starts_with('=')
 }
 
-/// Whether a line begins as no entry of an array does: with a header or a key.
-pub(crate) fn begins_outside(line: &str) -> bool {
+/// Whether an array that is open where the line of a place begins isn't closed from there on: the line begins as no entry
+/// does, and the first bracket isn't `]`.
+pub(crate) fn leaves_open(text: &str, place: usize) -> bool {
+    let rest = from_line(text, place);
+    begins_outside(rest) && !is_closed(rest)
+}
+
+// Whether a line begins as no entry of an array does: with a header or a key.
+fn begins_outside(line: &str) -> bool {
     match line.as_bytes() {
         [first, ..] => *first == b'[' || first.is_ascii_alphabetic(),
         [] => false,
     }
 }
 
+// Whether the first bracket of a text is `]`.
+fn is_closed(text: &str) -> bool {
+    match text.split_once(']') {
+        Some((before, _)) => !before.contains('['),
+        None => false,
+    }
+}
+
 /// The line of a text in which a place stands.
 pub(crate) fn line_at(text: &str, place: usize) -> &str {
+    let rest = from_line(text, place);
+    match rest.split_once('\n') {
+        Some((line, _)) => line,
+        None => rest,
+    }
+}
+
+// What begins with that line.
+fn from_line(text: &str, place: usize) -> &str {
     let before = text.get(..place).unwrap_or("");
     let begin = match before.rsplit_once('\n') {
         Some((lines, _)) => lines.len().saturating_add(1),
         None => 0,
     };
-    let rest = text.get(begin..).unwrap_or("");
-    match rest.split_once('\n') {
-        Some((line, _)) => line,
-        None => rest,
-    }
+    text.get(begin..).unwrap_or("")
 }

@@ -1,12 +1,13 @@
 //! Why a line of a schedule is refused.
 use crate::names::{NoSuchName, meant_name};
-use fedrun_lint_findings::lookalike_in;
+use fedrun_lint_findings::{STEPS, lookalike_in};
 use plan_names::is_name;
 use std::alloc::{AllocError, Global};
 
 /// How lines of one word are written.
 #[derive(Clone, Copy)]
 struct Form {
+    /// One of `STEPS`.
     word: &'static str,
     /// Which of its words is a federate, counted from 0; none where it is 0.
     federate: usize,
@@ -57,17 +58,6 @@ const FORMS: &[Form] = &[
     },
 ];
 
-const WORDS: &[&str] = &[
-    "announce",
-    "advance",
-    "deliver",
-    "resend",
-    "reconnect",
-    "forget",
-    "skip",
-    "round",
-];
-
 const CARRIAGE_RETURN: &str =
     "it ends with a carriage return, as an editor of Windows writes it: save the file with line feeds alone";
 
@@ -113,7 +103,7 @@ pub(crate) fn why_refused(
     }
     let word = word_at(text, 0);
     let Some(form) = form_of(word.as_bytes()) else {
-        return no_such_name(alloc, "step", word, WORDS);
+        return no_such_name(alloc, "step", word, STEPS);
     };
     if form.federate == 2 && !is_direction(word_at(text, 1)) {
         return Ok((String::new(alloc), form.spelling));
@@ -171,17 +161,10 @@ fn why_no_words(text: &str) -> Option<&'static str> {
         Some(SEMICOLON)
     } else if text.contains(',') {
         Some(COMMA)
-    } else if begins_with_digit(text) {
+    } else if text.starts_with(|letter: char| letter.is_ascii_digit()) {
         Some(NUMBER)
     } else {
         None
-    }
-}
-
-fn begins_with_digit(text: &str) -> bool {
-    match text.as_bytes() {
-        [first, ..] => first.is_ascii_digit(),
-        [] => false,
     }
 }
 
@@ -190,11 +173,15 @@ pub(crate) fn is_of_other_file(line: &[u8]) -> bool {
     line.contains(&b'\0') || is_toml(line)
 }
 
-// Whether a line is one of a TOML document: a header, or a key with a value, before any comment.
+// Whether a line is one of a TOML document: a header, or one word that is set to a value, before any comment.
 fn is_toml(line: &[u8]) -> bool {
     let text = std::str::from_utf8(line).unwrap_or("");
     let (text, _comment) = text.split_once('#').unwrap_or((text, ""));
-    text.starts_with('[') || text.contains(" = ")
+    let has_key = match text.split_once(" = ") {
+        Some((key, _value)) => !key.trim_start().contains(' '),
+        None => false,
+    };
+    has_key || text.starts_with('[')
 }
 
 fn is_direction(word: &str) -> bool {

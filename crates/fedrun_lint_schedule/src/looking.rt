@@ -1,7 +1,8 @@
 //! What is wrong in a schedule: the fault that the reading of the whole file answers, and the further lines that are
 //! refused by themselves.
-ghost use Rattle.std.specs.Prelude.{◌≡◌, IfOk};
-ghost use Rattle.fedrun_lint_schedule.specs.Refused.{AgreesOnSchedule};
+ghost use Rattle.std.specs.Prelude.{◌≡◌, ◌<◌, length, IfOk};
+ghost use Rattle.files_script.specs.declared.fault.ScriptFault.TheVariants.{OverLimit};
+ghost use Rattle.fedrun_lint_schedule.specs.Refused.{AgreesOnSchedule, IsFirst};
 
 use crate::bad_line::{is_of_other_file, renamed, why_refused};
 use crate::names::federate_names;
@@ -52,12 +53,17 @@ pub fn refusal_of_schedule(
         plan,
         federates: Some(federates.as_slice()),
     };
-    let found = reader.bad_lines(up_to(schedule, MOST_BYTES))?;
+    let found = match fault {
+        ScriptFault::OverLimit => (Vec::new(alloc), false),
+        _ => reader.bad_lines(schedule)?,
+    };
     Ok(refusal_of(alloc, fault, found))
 }
 
 /// Why a schedule is refused whatever federates there are, if it is: for its length, or for lines of no form.
-pub fn look_at_form(alloc: Global, schedule: &[u8]) -> Result<Option<ScheduleRefusal>, AllocError> {
+pub fn look_at_form(alloc: Global, schedule: &[u8]) -> Result<Option<ScheduleRefusal>, AllocError>
+    ensures { MOST_BYTES < length schedule.now → IfOk result (IsFirst OverLimit) }
+{
     if schedule.len() > MOST_BYTES {
         return Ok(Some(ScheduleRefusal::too_long(alloc)));
     }
@@ -97,9 +103,14 @@ fn refusal_of(alloc: Global, fault: ScriptFault, found: Found) -> ScheduleRefusa
     }
 }
 
-// A file's bytes, but none of one that is longer than it may be.
-fn up_to(bytes: &[u8], most: usize) -> &[u8] {
-    if bytes.len() > most { &[] } else { bytes }
+/// What a line of a schedule is by itself.
+#[derive(Clone, Copy, PartialEq, Eq)]
+enum LineKind {
+    Step,
+    /// It is empty, or a comment.
+    Idle,
+    /// It is refused.
+    Bad,
 }
 
 /// How the lines of a schedule are looked at, each by itself.
@@ -112,18 +123,20 @@ struct Reader<'a> {
 }
 
 impl Reader<'_> {
-    // The lines that are bad, up to as many as are told; of a file that is TOML or UTF-16 up to the first one of it.
+    // The lines that are bad, up to as many as are told; of a file that has no step and is TOML or UTF-16 up to the first
+    // one of it.
     fn bad_lines(self, schedule: &[u8]) -> Result<Found, AllocError> {
+        let has_step = self.has_step(schedule)?;
         let mut found = Vec::new(self.alloc);
         let mut number = 0usize;
         for line in schedule.split(|byte| *byte == b'\n') {
             number = number.saturating_add(1);
-            if self.is_bad(line)? {
+            if self.kind(line)? == LineKind::Bad {
                 if found.len() >= MOST_LINES {
                     return Ok((found, true));
                 }
                 found.push(self.finding(number, line)?)?;
-                if is_of_other_file(line) {
+                if !has_step && is_of_other_file(line) {
                     return Ok((found, false));
                 }
             }
@@ -131,13 +144,23 @@ impl Reader<'_> {
         Ok((found, false))
     }
 
-    // Whether a line spells no command, and isn't idle either.
-    fn is_bad(self, line: &[u8]) -> Result<bool, AllocError> {
+    // Whether a line of a schedule is a step.
+    fn has_step(self, schedule: &[u8]) -> Result<bool, AllocError> {
+        for line in schedule.split(|byte| *byte == b'\n') {
+            if self.kind(line)? == LineKind::Step {
+                return Ok(true);
+            }
+        }
+        Ok(false)
+    }
+
+    // What a line is, whoever is its federate where it isn't known which there are.
+    fn kind(self, line: &[u8]) -> Result<LineKind, AllocError> {
         if self.federates.is_some() {
-            return is_refused(self.alloc, line, self.plan);
+            return kind_of(self.alloc, line, self.plan);
         }
         let line = renamed(self.alloc, line, ANY_FEDERATE)?;
-        is_refused(self.alloc, line.as_slice(), self.plan)
+        kind_of(self.alloc, line.as_slice(), self.plan)
     }
 
     // What is told of the line of this number, which is bad.
@@ -151,11 +174,12 @@ impl Reader<'_> {
     }
 }
 
-// Whether a line is refused as a schedule of this plan.
-fn is_refused(alloc: Global, line: &[u8], plan: &Plan) -> Result<bool, AllocError> {
+// What a line is in a schedule of this plan.
+fn kind_of(alloc: Global, line: &[u8], plan: &Plan) -> Result<LineKind, AllocError> {
     match read_script(alloc, line, plan) {
-        Ok(_) => Ok(false),
+        Ok(script) if script.lines().is_empty() => Ok(LineKind::Idle),
+        Ok(_) => Ok(LineKind::Step),
         Err(ScriptFault::Memory) => Err(AllocError),
-        Err(_) => Ok(true),
+        Err(_) => Ok(LineKind::Bad),
     }
 }

@@ -1,13 +1,19 @@
 //! Names that there are.
+ghost use Rattle.std.specs.Prelude.{◌≡◌, map, Contains, IfOk, IfSome};
+ghost use Rattle.plan.specs.Federation.{federate_names};
+
 use fedrun_lint_findings::few_edits;
 use plan::Plan;
 use std::alloc::{AllocError, Global};
 use std::fmt;
 
-/// The names of a plan's federates.
-pub fn federate_names(alloc: Global, plan: &Plan) -> Result<Vec<&str>, AllocError> {
+/// The names of a plan's federates, in their order.
+pub fn federate_names(alloc: Global, plan: &Plan) -> Result<Vec<&str>, AllocError>
+    ensures { IfOk result (λ names. map (λ name. name.now) names.items ≡ federate_names plan.now.federates) }
+{
+    let federates = plan.federates();
     let mut names = Vec::new(alloc);
-    for federate in plan.federates() {
+    for federate in federates {
         names.push(federate.name.as_str()).map_err(|_| AllocError)?;
     }
     Ok(names)
@@ -55,7 +61,9 @@ impl fmt::Display for Listed<'_> {
 }
 
 /// Which of these names may be meant by one that isn't there: the one that is fewest edits away, if these are few.
-pub fn meant_name<'a>(alloc: Global, wrong: &str, names: &[&'a str]) -> Option<&'a str> {
+pub fn meant_name<'a>(alloc: Global, wrong: &str, names: &[&'a str]) -> Option<&'a str>
+    ensures { IfSome result (Contains names.now) }
+{
     let mut meant = None;
     let mut fewest = usize::MAX;
     for name in names {

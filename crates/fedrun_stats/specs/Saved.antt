@@ -1,17 +1,21 @@
 -- What becomes of files where what was measured is saved.
-use Rattle.std.specs.Prelude.{◌≡◌, ℕ, List, Bool, true, Option, None, Some, IfSome, IsSome, length, ◌==◌, ◌&&◌, ◌||◌}
+use Rattle.std.specs.Prelude.{◌≡◌, ℕ, List, ◌++◌, codes, true, Option, None, Some, IfSome, IsSome}
+use Rattle.std.specs.Fmt.{decimal}
 use Rattle.files_saving.specs.Contents.{Contents, SameButTwo}
 use Rattle.files_stats.specs.Stats.{is_stats_text}
 
--- whether a file with these bytes may go: one that was saved so before, or the temporary one of a command that was
--- killed, which has no bytes until all is measured
-abbrev pub may_go : (is_temporary : Bool) → List ℕ → Bool
-may_go is_temporary bytes = (is_temporary && length bytes == 0) || is_stats_text bytes
+-- the name of the temporary file of a command for a file of this name, by the number that the command has drawn
+abbrev pub own_name : (name : List ℕ) → (drawn : ℕ) → List ℕ
+own_name name drawn = name ++ (codes "." ++ (decimal drawn ++ codes ".part"))
 
--- where there is a file of this name, and its bytes are known, it may go
-abbrev pub MayGo : (is_temporary : Bool) → Option Contents → Option (List ℕ) → (name : List ℕ) → Type 0
-MayGo is_temporary contents bytes name =
-    IfSome contents (λ held. IsSome (held name) → IfSome bytes (λ known. may_go is_temporary known ≡ true))
+-- where there is a file of this name, and its bytes are known, it may go: they begin as those of such a file do
+abbrev pub MayGo : Option Contents → Option (List ℕ) → (name : List ℕ) → Type 0
+MayGo contents bytes name =
+    IfSome contents (λ held. IsSome (held name) → IfSome bytes (λ known. is_stats_text known ≡ true))
+
+-- there is no file of this name, where that is known
+abbrev pub IsFree : Option Contents → (name : List ℕ) → Type 0
+IsFree contents name = IfSome contents (λ held. held name ≡ None)
 
 -- the file of this name has these bytes, whether or not there was one before, which is gone then; and the temporary
 -- file isn't there any more

@@ -1,42 +1,43 @@
-//! The file that `--stats` names. Until all is measured, a temporary file stands beside it: so what can't be written is
-//! known before anything is begun. A file that has one of the two names is taken away, but only where `--stats` made
-//! it: a name that was given by mistake is refused.
-ghost use Rattle.std.specs.Prelude.{◌≡◌, ◌≢◌, ◌⊎◌, false, true, IfErr, IfSome, IsTrue, OnErr, OnOk};
+//! The file that `--stats` names. Before anything is begun a temporary file is made beside it and taken away again: so
+//! what can't be written is known then. At the end one is made with what was measured, and gets the name. It has a name
+//! of its own by a number that the command draws: so no command takes away what another one saves, and what one that
+//! was killed has left is in nobody's way. A file that has the name is replaced, but only where it begins as `--stats`
+//! has it: a name that was given by mistake is refused.
+ghost use Rattle.std.specs.Prelude.{◌≡◌, ◌≢◌, ◌⊎◌, false, None, IfErr, IfOk, IfSome, IsTrue, OnErr, OnOk, string_bytes};
 ghost use Rattle.files_saving.specs.Contents.{KnownOf, SameBut, SameButTwo};
 ghost use Rattle.files_saving.specs.Fault.{is_of_writing};
-ghost use Rattle.files_saving.specs.Saved.{temporary_name};
+ghost use Rattle.files_saving.specs.Saved.{IsCreated};
 ghost use Rattle.files_stats.specs.Stats.{stats_text};
-ghost use Rattle.fedrun_stats.specs.Saved.{IsLeft, IsReplaced, may_go, MayGo};
+ghost use Rattle.fedrun_stats.specs.Saved.{own_name, IsFree, IsLeft, IsReplaced, MayGo};
 
 use crate::fault::StatsFault;
 use fedrun_files::Files;
 use fedrun_words::{Fault, print_text, refuse};
-use files_saving::{Disk, SaveFault, temporary_name};
+use files_saving::{Disk, SaveFault};
 use files_stats::{Stats, is_stats};
-use std::alloc::Global;
+use std::alloc::{AllocError, Global};
 use std::io::Write;
 
 /// The bytes of a file that `--stats` saved, at most: none has as many.
 const MOST_BYTES: usize = 65_536;
 
-/// Makes the temporary file, before anything is begun. One that is there already was left by a command that was killed,
-/// and is taken away. Where there is something of one of the two names that `--stats` didn't make, or that can't be
-/// read, that is refused, and is left as it is.
+/// Looks, before anything is begun, whether a file of this name can be saved at the end: makes the temporary file that
+/// is called by this number, which wasn't there before, and takes it away again. Where there is something of the name
+/// that doesn't begin as such a file does, or that can't be read, that is refused.
 #[tactic(auto, using(crate::proofs::Replaced::nothing_changed))]
 pub fn begin_stats<'a, F: Files, D: Disk>(
     alloc: Global,
     name: &'a str,
+    drawn: u32,
     files: &mut F,
     disk: &mut D,
 ) -> Result<(), StatsFault<'a>>
-    ensures others { KnownOf (D.contents disk.old) (D.contents disk.new) (SameBut (temporary_name name.entry.now)) }
-    ensures taken_away { (D.contents disk.new ≡ D.contents disk.old)
-        ⊎ MayGo true (D.contents disk.old) (F.contents files.old (temporary_name name.entry.now))
-        (temporary_name name.entry.now) }
+    ensures others { KnownOf (D.contents disk.old) (D.contents disk.new) (SameBut (own_name name.entry.now drawn)) }
+    ensures own { OnOk result (IsFree (D.contents disk.old) (own_name name.entry.now drawn)) }
     ensures replaceable { OnOk result
-        (MayGo false (D.contents disk.old) (F.contents files.old name.entry.now) name.entry.now) }
+        (MayGo (D.contents disk.old) (F.contents files.old name.entry.now) name.entry.now) }
 {
-    let Ok(temporary) = temporary_name(alloc, name) else {
+    let Ok(temporary) = own_name(alloc, name, drawn) else {
         return Err(StatsFault {
             name,
             why: SaveFault::CannotCreate,
@@ -50,7 +51,7 @@ pub fn begin_stats<'a, F: Files, D: Disk>(
 
 // Makes the temporary file, and looks then what stands under the name: where no file can be made, nothing is read
 // there, as of a device.
-#[tactic(auto, using(crate::proofs::Replaced::nothing_changed, crate::proofs::Replaced::both_changes, crate::proofs::Replaced::still_may_go))]
+#[tactic(auto, using(crate::proofs::Replaced::free_before, crate::proofs::Replaced::created_but, crate::proofs::Replaced::made_and_gone, crate::proofs::Replaced::still_may_go))]
 fn begin<F: Files, D: Disk>(
     temporary: &str,
     name: &str,
@@ -59,40 +60,25 @@ fn begin<F: Files, D: Disk>(
 ) -> Result<(), SaveFault>
     requires { temporary.now ≢ name.now }
     ensures others { KnownOf (D.contents disk.old) (D.contents disk.new) (SameBut temporary.now) }
-    ensures taken_away { (D.contents disk.new ≡ D.contents disk.old)
-        ⊎ MayGo true (D.contents disk.old) (F.contents files.old temporary.now) temporary.now }
+    ensures own { OnOk result (IsFree (D.contents disk.old) temporary.now) }
     ensures replaceable { OnOk result
-        (MayGo false (D.contents disk.old) (F.contents files.old name.now) name.now) }
+        (MayGo (D.contents disk.old) (F.contents files.old name.now) name.now) }
 {
-    match look(temporary, true, files, disk) {
+    match disk.create(temporary) {
         Ok(()) => {}
         Err(why) => return Err(why),
     }
-    match create_anew(temporary, disk) {
-        Ok(()) => {}
-        Err(why) => return Err(why),
-    }
-    match look(name, false, files, disk) {
-        Ok(()) => Ok(()),
-        Err(why) => {
-            disk.remove(temporary);
-            Err(why)
-        }
-    }
+    let looked = look(name, files, disk);
+    disk.remove(temporary);
+    looked
 }
 
 // Refuses what has this name and may not be taken away.
 #[tactic(auto, using(crate::proofs::Replaced::read_so))]
-fn look<F: Files, D: Disk>(
-    name: &str,
-    is_temporary: bool,
-    files: &mut F,
-    disk: &mut D,
-) -> Result<(), SaveFault>
+fn look<F: Files, D: Disk>(name: &str, files: &mut F, disk: &mut D) -> Result<(), SaveFault>
     ensures same { D.contents disk.new ≡ D.contents disk.old }
     ensures same_files { F.contents files.new ≡ F.contents files.old }
-    ensures looked { OnOk result
-        (MayGo is_temporary (D.contents disk.old) (F.contents files.old name.now) name.now) }
+    ensures looked { OnOk result (MayGo (D.contents disk.old) (F.contents files.old name.now) name.now) }
     ensures fault { IfErr result (λ fault. is_of_writing fault ≡ false) }
 {
     match disk.exists(name) {
@@ -101,62 +87,45 @@ fn look<F: Files, D: Disk>(
         Err(why) => return Err(why),
     }
     match files.bytes(name, MOST_BYTES) {
-        Ok(bytes) if may_be_removed(bytes.as_slice(), is_temporary) => Ok(()),
+        Ok(bytes) if is_stats(bytes.as_slice()) => Ok(()),
         _ => Err(SaveFault::Exists),
     }
 }
 
-// Whether a file with these bytes may be taken away.
-fn may_be_removed(bytes: &[u8], is_temporary: bool) -> bool
-    ensures { result ≡ may_go is_temporary bytes.now }
+// The name of the temporary file for a file of this name, by the number that the command has drawn.
+#[tactic(auto, using(crate::proofs::Replaced::another_name))]
+fn own_name(alloc: Global, name: &str, drawn: u32) -> Result<String, AllocError>
+    ensures named { IfOk result (λ temporary. string_bytes temporary ≡ own_name name.now drawn) }
+    ensures other { IfOk result (λ temporary. string_bytes temporary ≢ name.now) }
 {
-    is_temporary && bytes.is_empty() || is_stats(bytes)
-}
-
-// Makes the file of this name, in place of one that is there.
-#[tactic(auto, using(crate::proofs::Replaced::created_anew, crate::proofs::Replaced::both_changes))]
-fn create_anew<D: Disk>(name: &str, disk: &mut D) -> Result<(), SaveFault>
-    ensures { KnownOf (D.contents disk.old) (D.contents disk.new) (SameBut name.now) }
-{
-    disk.remove(name);
-    match disk.create(name) {
-        Ok(()) => Ok(()),
-        Err(why) => Err(why),
-    }
-}
-
-/// Takes the temporary file away, where nothing was measured.
-#[tactic(auto, using(crate::proofs::Replaced::nothing_changed))]
-pub fn drop_stats<D: Disk>(alloc: Global, name: &str, disk: &mut D)
-    ensures { KnownOf (D.contents disk.old) (D.contents disk.new) (SameBut (temporary_name name.now)) }
-{
-    if let Ok(temporary) = temporary_name(alloc, name) {
-        disk.remove(temporary.as_str());
-    }
+    format!(in alloc; "{name}.{drawn}.part")
 }
 
 /// Saves what was measured under this name, in place of a file that has it and that `--stats` made: any other that has
-/// the name by now is left as it is. Where it can't be written, no file but the temporary one has changed; where it only
-/// doesn't get the name, all of it stands in the temporary file, and one of the name may be gone.
+/// the name by now is left as it is. The temporary file is called by this number. Where it can't be written, no other
+/// file has changed; where it only doesn't get the name, all of it stands in the temporary file, and one of the name
+/// may be gone.
 #[tactic(auto, using(crate::proofs::Replaced::nothing_changed))]
 pub fn save_stats<'a, F: Files, D: Disk>(
     alloc: Global,
     name: &'a str,
+    drawn: u32,
     stats: &Stats<'_>,
     files: &mut F,
     disk: &mut D,
 ) -> Result<(), StatsFault<'a>>
     ensures replaced { OnOk result (KnownOf (D.contents disk.old) (D.contents disk.new)
-        (IsReplaced (temporary_name name.entry.now) name.entry.now (stats_text stats.now))) }
+        (IsReplaced (own_name name.entry.now drawn) name.entry.now (stats_text stats.now))) }
     ensures unwritten { IfErr result (λ fault. IsTrue (is_of_writing fault.why)
-        → KnownOf (D.contents disk.old) (D.contents disk.new) (SameBut (temporary_name name.entry.now))) }
+        → KnownOf (D.contents disk.old) (D.contents disk.new) (SameBut (own_name name.entry.now drawn))) }
     ensures left { IfErr result (λ fault. is_of_writing fault.why ≡ false
         → KnownOf (D.contents disk.old) (D.contents disk.new)
-        (IsLeft (temporary_name name.entry.now) name.entry.now (stats_text stats.now))) }
-    ensures kept { MayGo false (D.contents disk.old) (F.contents files.old name.entry.now) name.entry.now
-        ⊎ KnownOf (D.contents disk.old) (D.contents disk.new) (SameBut (temporary_name name.entry.now)) }
+        (IsLeft (own_name name.entry.now drawn) name.entry.now (stats_text stats.now))) }
+    ensures own { OnOk result (IsFree (D.contents disk.old) (own_name name.entry.now drawn)) }
+    ensures kept { MayGo (D.contents disk.old) (F.contents files.old name.entry.now) name.entry.now
+        ⊎ KnownOf (D.contents disk.old) (D.contents disk.new) (SameBut (own_name name.entry.now drawn)) }
 {
-    let Ok(temporary) = temporary_name(alloc, name) else {
+    let Ok(temporary) = own_name(alloc, name, drawn) else {
         return Err(StatsFault {
             name,
             why: SaveFault::CannotWrite,
@@ -168,8 +137,8 @@ pub fn save_stats<'a, F: Files, D: Disk>(
     }
 }
 
-// Gives the temporary file the text, and then the name.
-#[tactic(auto, using(crate::proofs::Replaced::nothing_changed, crate::proofs::Replaced::written_but, crate::proofs::Replaced::still_may_go, crate::proofs::Replaced::replaced, crate::proofs::Replaced::left, crate::proofs::Replaced::left_there))]
+// Makes the temporary file with the text, and gives it the name.
+#[tactic(auto, using(crate::proofs::Replaced::nothing_changed, crate::proofs::Replaced::free_before, crate::proofs::Replaced::created_but, crate::proofs::Replaced::still_may_go, crate::proofs::Replaced::replaced, crate::proofs::Replaced::left, crate::proofs::Replaced::left_there))]
 fn replace<F: Files, D: Disk>(
     alloc: Global,
     temporary: &str,
@@ -186,22 +155,44 @@ fn replace<F: Files, D: Disk>(
     ensures left { IfErr result (λ fault. is_of_writing fault ≡ false
         → KnownOf (D.contents disk.old) (D.contents disk.new)
         (IsLeft temporary.now name.now (stats_text stats.now))) }
-    ensures kept { MayGo false (D.contents disk.old) (F.contents files.old name.now) name.now
+    ensures own { OnOk result (IsFree (D.contents disk.old) temporary.now) }
+    ensures kept { MayGo (D.contents disk.old) (F.contents files.old name.now) name.now
         ⊎ KnownOf (D.contents disk.old) (D.contents disk.new) (SameBut temporary.now) }
 {
     let Some(text) = text_of(alloc, stats) else {
         return Err(SaveFault::CannotWrite);
     };
-    match disk.write(temporary, text.as_slice()) {
+    match write_anew(temporary, text.as_slice(), disk) {
         Ok(()) => {}
         Err(why) => return Err(why),
     }
-    match look(name, false, files, disk) {
+    match look(name, files, disk) {
         Ok(()) => {}
         Err(why) => return Err(why),
     }
     disk.remove(name);
     disk.rename(temporary, name)
+}
+
+// Makes the temporary file, which isn't there, with these bytes; where it can't be written, it is taken away again.
+#[tactic(auto, using(crate::proofs::Replaced::created_with, crate::proofs::Replaced::made_and_gone, crate::proofs::Replaced::both_changes))]
+fn write_anew<D: Disk>(temporary: &str, bytes: &[u8], disk: &mut D) -> Result<(), SaveFault>
+    ensures made { OnOk result
+        (KnownOf (D.contents disk.old) (D.contents disk.new) (IsCreated temporary.now bytes.now)) }
+    ensures others { OnErr result (KnownOf (D.contents disk.old) (D.contents disk.new) (SameBut temporary.now)) }
+    ensures fault { IfErr result (λ fault. IsTrue (is_of_writing fault)) }
+{
+    match disk.create(temporary) {
+        Ok(()) => {}
+        Err(_) => return Err(SaveFault::CannotWrite),
+    }
+    match disk.write(temporary, bytes) {
+        Ok(()) => Ok(()),
+        Err(why) => {
+            disk.remove(temporary);
+            Err(why)
+        }
+    }
 }
 
 // The text, where there is memory for it.
@@ -216,13 +207,14 @@ fn text_of(alloc: Global, stats: &Stats<'_>) -> Option<Vec<u8>>
     }
 }
 
-/// Ends what `begin_stats` began, of a command that ended with this status: saves what was measured, if anything was.
-/// Returns the status with which the program ends: another one only where the command's is 0 and this can't be saved,
-/// which is told then.
-#[tactic(auto, using(crate::proofs::Replaced::one_of_two, crate::proofs::Replaced::replaced_two, crate::proofs::Replaced::left_two))]
+/// Ends what `begin_stats` began by the same number, of a command that ended with this status: saves what was measured,
+/// if anything was. Returns the status with which the program ends: another one only where the command's is 0 and this
+/// can't be saved, which is told then.
+#[tactic(auto, using(crate::proofs::Replaced::nothing_changed, crate::proofs::Replaced::one_of_two, crate::proofs::Replaced::replaced_two, crate::proofs::Replaced::left_two))]
 pub fn end_stats<F: Files, D: Disk, E: Write>(
     alloc: Global,
     name: &str,
+    drawn: u32,
     stats: Option<Stats<'_>>,
     status: u8,
     files: &mut F,
@@ -230,20 +222,22 @@ pub fn end_stats<F: Files, D: Disk, E: Write>(
     err: &mut E,
 ) -> u8
     ensures same { status ≢ 0 → result ≡ status }
+    ensures nothing { stats.entry ≡ None → result ≡ status }
+    ensures untouched { stats.entry ≡ None → D.contents disk.new ≡ D.contents disk.old }
+    ensures unsaved { result ≢ status → result ≡ 3 }
     ensures quiet { status ≢ 0 → err.new ≡ err.old }
     ensures done { result ≡ 0 → err.new ≡ err.old }
     ensures saved { result ≡ 0 → IfSome stats.entry (λ stats. KnownOf (D.contents disk.old) (D.contents disk.new)
-        (IsReplaced (temporary_name name.now) name.now (stats_text stats))) }
+        (IsReplaced (own_name name.now drawn) name.now (stats_text stats))) }
     ensures others { KnownOf (D.contents disk.old) (D.contents disk.new)
-        (SameButTwo (temporary_name name.now) name.now) }
-    ensures kept { MayGo false (D.contents disk.old) (F.contents files.old name.now) name.now
-        ⊎ KnownOf (D.contents disk.old) (D.contents disk.new) (SameBut (temporary_name name.now)) }
+        (SameButTwo (own_name name.now drawn) name.now) }
+    ensures kept { MayGo (D.contents disk.old) (F.contents files.old name.now) name.now
+        ⊎ KnownOf (D.contents disk.old) (D.contents disk.new) (SameBut (own_name name.now drawn)) }
 {
     let Some(stats) = stats else {
-        drop_stats(alloc, name, disk);
         return status;
     };
-    match save_stats(alloc, name, &stats, files, disk) {
+    match save_stats(alloc, name, drawn, &stats, files, disk) {
         Ok(()) => status,
         Err(fault) => {
             if status == 0 {

@@ -4,7 +4,9 @@ use Rattle.std.specs.Fmt.{decimal}
 use Rattle.tag.specs.Printed.{printed_time}
 use Rattle.wires_hosts.specs.declared.standing.Standing.{Standing}
 use Rattle.wires_hosts.specs.declared.standing.Reached.{Reached}
-use Rattle.fedrun_watch.specs.Lines.{federate_text, tenths_text, tag_text}
+use Rattle.fedrun_watch.specs.Seconds.{tenths_text}
+use Rattle.fedrun_watch.specs.Awaited.{federate_text}
+use Rattle.fedrun_watch.specs.Standings.{tag_text}
 use Rattle.fedrun_watch.specs.declared.picture.TheConstants.{COLUMNS, CUT, UNCUT, WIPED, UP}
 
 -- when a federate was heard last that is connected

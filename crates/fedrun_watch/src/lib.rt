@@ -8,13 +8,20 @@
 //! clause says what is told or when: what happens while too much waits is counted and left out, so that no worker waits
 //! for whoever writes. Nothing that a node does rests on it.
 //!
-//! Begin with `show` in `showing.rt`, then `screen`, `lines`, `picture`; what is told is `Told` of `wires_hosts`.
+//! Begin with `show` in `showing.rt`, then `screen`, `lines`, `picture`; what is told is `Told` of `wires_hosts`. What
+//! stands in a line is in `awaited` (federates by name), `connections`, `standings` and `causes`, and its times in
+//! `seconds`.
 #![tactic(auto)]
 
+mod awaited;
+mod causes;
+mod connections;
 mod lines;
 mod picture;
 pub mod screen;
+mod seconds;
 pub mod showing;
+mod standings;
 
 pub use screen::{Screen, View};
 pub use showing::{print_happened, show, view_asked};

@@ -2,7 +2,9 @@
 ghost use Rattle.std.specs.Prelude.{◌≡◌, IfSome, take, flat_map};
 ghost use Rattle.fedrun_watch.specs.Picture.{picture_text, row_line, row_text};
 
-use crate::lines::{FederateName, TagOrNone, Tenths};
+use crate::awaited::FederateName;
+use crate::seconds::Tenths;
+use crate::standings::TagOrNone;
 use fedrun_words::print_text;
 use plan_names::Text;
 use std::alloc::Global;

@@ -575,5 +575,5 @@ const PROGRESS_OF_NODE: OptionWords = OptionWords {
     value: None,
     is_file: false,
     is_needed: false,
-    about: "a line on the terminal for each federate says whether it is there and how far it is",
+    about: "lines on the terminal say which federates are there and how far they are",
 };

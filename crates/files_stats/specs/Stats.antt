@@ -72,9 +72,9 @@ federates_text None = []
 federates_text (Some counts) =
     node_text (codes "federates") counts.received.frames.tag counts.sent.frames.ltc counts
 
--- with this each of these files begins
+-- with this each of these files begins: a line that says who saved it, and the first key
 abbrev pub beginning : List ℕ
-beginning = codes "command = \""
+beginning = codes "# saved by fedrun --stats\ncommand = \""
 
 -- whether bytes begin so
 abbrev pub is_stats_text : List ℕ → Bool

@@ -8,7 +8,7 @@ use std::fmt;
 use wires_traffic::Counts;
 
 /// With this each of these files begins.
-const BEGINNING: &[u8] = b"command = \"";
+const BEGINNING: &[u8] = b"# saved by fedrun --stats\ncommand = \"";
 
 /// Whether bytes begin as such a file does.
 pub fn is_stats(bytes: &[u8]) -> bool
@@ -58,7 +58,7 @@ impl fmt::Display for Stats<'_> {
         let federates = FederatesTables(self.federates);
         write!(
             f,
-            "command = \"{command}\"\n{status}{phases}{coordinator}{federates}"
+            "# saved by fedrun --stats\ncommand = \"{command}\"\n{status}{phases}{coordinator}{federates}"
         )
     }
 }

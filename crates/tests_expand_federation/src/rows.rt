@@ -69,19 +69,7 @@ const WORKED: &[(&str, &[(&str, i64)], &[Worked])] = &[
             (3, 20, Some(102)),
         ],
     ),
-    // A ring of two, and a node that hears itself too late.
-    (
-        RING,
-        &[("nodes", 2)],
-        &[
-            (0, 0, Some(0)),
-            (1, 0, Some(100)),
-            (0, 10, Some(101)),
-            (1, 10, Some(1)),
-            (0, 20, Some(2)),
-            (1, 20, Some(102)),
-        ],
-    ),
+    // A node that hears itself too late.
     (RING, &[("delay", 30), ("nodes", 1)], &[(0, 0, Some(0))]),
     (
         FAN_IN,
@@ -95,19 +83,6 @@ const WORKED: &[(&str, &[(&str, i64)], &[Worked])] = &[
             (1, 5, Some(20)),
             (2, 5, Some(30)),
             (3, 5, Some(60)),
-        ],
-    ),
-    // Each follower is where the one before it is.
-    (
-        PLATOON,
-        &[],
-        &[
-            (0, 0, Some(10)),
-            (1, 0, Some(10)),
-            (2, 0, Some(10)),
-            (0, 10, Some(20)),
-            (1, 10, Some(20)),
-            (2, 10, Some(20)),
         ],
     ),
     // It goes too far: 10 * 2, 20 * 2; then 20 + 0, 40 - 20 * 2.

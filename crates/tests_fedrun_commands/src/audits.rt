@@ -1,14 +1,10 @@
-//! What `audit` answers and prints of report files: those of worked federations, and some that aren't taken.
+//! What `audit` answers and prints of report files: those of the counter and of the chain, and some that aren't taken.
 use crate::reports::{Flaw, ReportFile, changed, report_file, said};
 use std::alloc::Global;
 use std::net::{Net, TcpListener, TcpStream};
 use tests_outcomes::{ANY, Answer, WrongAnswer, answered_over, outcome_of};
-use tests_samples::worked_rows::{
-    CARRIED_ROWS, CHAIN_ROWS, COUNTER_ROWS, LOOP_ROWS, REPLACED_ROWS,
-};
-use tests_samples::{
-    CARRIED, CARRIED_INPUTS, CHAIN, CHAIN_INPUT, COUNTER, LOOP, Machine, REPLACED,
-};
+use tests_samples::worked_rows::{CHAIN_ROWS, COUNTER_ROWS};
+use tests_samples::{CHAIN, CHAIN_INPUT, COUNTER, Machine, REPLACED};
 
 /// Bytes of the counter's report files before the first row, and of each row, which has one input and one output.
 const HEAD: usize = 82;
@@ -54,17 +50,6 @@ const COUNTER_REPORTS: &[ReportFile] = &[
     ("cut", Some(0), Flaw::Cut),
 ];
 
-/// A federation, its input file, reports of a run of them, and what is answered over these.
-#[derive(Clone, Copy)]
-struct Audit {
-    federation: &'static str,
-    inputs: &'static str,
-    reports: &'static [ReportFile],
-    answers: &'static [Answer],
-    /// How many lists of words these have.
-    count: usize,
-}
-
 /// The words of an audit of two federates' reports.
 const TWO: &[&str] = &["audit", "f", "i", "c", "0", "1"];
 
@@ -87,20 +72,9 @@ const COUNTER_ANSWERS: &[Answer] = &[
         &[&["audit", "f", "i", "c", "0", "1", "--csv"]],
         0,
         &[
-            "federate,time_ns,microstep,kind,name,value
-src,0,0,in,t,
-src,0,0,out,y,1
-src,10000000,0,in,t,
-src,10000000,0,out,y,2
-src,20000000,0,in,t,
-src,20000000,0,out,y,3
-snk,0,0,in,x,1
-snk,0,0,out,total,1
-snk,10000000,0,in,x,2
-snk,10000000,0,out,total,3
-snk,20000000,0,in,x,3
-snk,20000000,0,out,total,6
-",
+            "federate,time_ns,microstep,kind,name,value\nsrc,0,0,in,t,\n",
+            ANY,
+            "snk,20000000,0,out,total,6\n",
         ],
         &[],
     ),
@@ -243,60 +217,16 @@ const COUNTER_DOUBTS: &[Answer] = &[
     ),
 ];
 
-const COUNTER_AUDIT: Audit = Audit {
-    federation: COUNTER,
-    inputs: "",
-    reports: COUNTER_REPORTS,
-    answers: COUNTER_ANSWERS,
-    count: 23,
-};
-
-const DOUBTED_AUDIT: Audit = Audit {
-    federation: COUNTER,
-    inputs: "",
-    reports: COUNTER_REPORTS,
-    answers: COUNTER_DOUBTS,
-    count: 13,
-};
-
-const AUDITS: &[Audit] = &[
-    Audit {
-        federation: REPLACED,
-        inputs: "",
-        reports: HONEST,
-        answers: &[(&[TWO], 0, &[REPLACED_ROWS], &[])],
-        count: 1,
-    },
-    Audit {
-        federation: LOOP,
-        inputs: "",
-        reports: HONEST,
-        answers: &[(&[&["audit", "f", "i", "c", "0"]], 0, &[LOOP_ROWS], &[])],
-        count: 1,
-    },
-    Audit {
-        federation: CHAIN,
-        inputs: CHAIN_INPUT,
-        reports: HONEST,
-        answers: &[(
-            &[
-                &["audit", "f", "i", "c", "0", "1", "2"],
-                &["audit", "f", "i", "c", "2", "1", "0"],
-            ],
-            0,
-            &[CHAIN_ROWS],
-            &[],
-        )],
-        count: 2,
-    },
-    Audit {
-        federation: CARRIED,
-        inputs: CARRIED_INPUTS,
-        reports: HONEST,
-        answers: &[(&[TWO], 0, &[CARRIED_ROWS], &[])],
-        count: 1,
-    },
-];
+/// Words over the files of the chain, which has three federates and a recorded input.
+const CHAIN_ANSWERS: &[Answer] = &[(
+    &[
+        &["audit", "f", "i", "c", "0", "1", "2"],
+        &["audit", "f", "i", "c", "2", "1", "0"],
+    ],
+    0,
+    &[CHAIN_ROWS],
+    &[],
+)];
 
 /// The files of these reports, in their order.
 pub fn report_files(
@@ -333,50 +263,43 @@ pub fn named<'a>(
     Some(named)
 }
 
-// How many lists of words an audit has, which are all answered as it says; else the first that isn't. None where there
-// is no memory for the files, or a node refuses something.
+// How many lists of words there are, which are all answered so over these reports of a run of these files; else the
+// first that isn't. None where there is no memory for the files, or a node refuses something.
 fn audited<R: Machine + Net<Stream = TcpStream, Listener = TcpListener>>(
     rt: &R,
-    audit: &Audit,
+    federation: &str,
+    inputs: &str,
+    reports: &[ReportFile],
+    answers: &[Answer],
 ) -> Option<Result<usize, WrongAnswer>> {
     let alloc = rt.alloc();
-    let files = report_files(alloc, audit.federation, audit.inputs, audit.reports)?;
-    let files = named(
-        alloc,
-        audit.federation,
-        audit.inputs,
-        audit.reports,
-        files.as_slice(),
-    )?;
-    Some(answered_over(rt, files.as_slice(), audit.answers, 0))
+    let files = report_files(alloc, federation, inputs, reports)?;
+    let files = named(alloc, federation, inputs, reports, files.as_slice())?;
+    Some(answered_over(rt, files.as_slice(), answers, 0))
 }
 
-// The place of the first audit that isn't answered as it says.
-fn first_wrong<R: Machine + Net<Stream = TcpStream, Listener = TcpListener>>(
+// The same over the counter's reports.
+fn audited_of_counter<R: Machine + Net<Stream = TcpStream, Listener = TcpListener>>(
     rt: &R,
-    audits: &[Audit],
-) -> Option<usize> {
-    for (place, audit) in audits.iter().enumerate() {
-        if audited(rt, audit) != Some(Ok(audit.count)) {
-            return Some(place);
-        }
-    }
-    None
+    answers: &[Answer],
+) -> Option<Result<usize, WrongAnswer>> {
+    audited(rt, COUNTER, "", COUNTER_REPORTS, answers)
 }
 
 #[test]
 fn answers_of_report_files_what_is_wrong_with_them(rt: HostRuntime) {
-    assert_eq!(rt; audited(&rt, &COUNTER_AUDIT), Some(Ok(23)));
+    assert_eq!(rt; audited_of_counter(&rt, COUNTER_ANSWERS), Some(Ok(23)));
 }
 
 #[test]
 fn believes_no_reports_that_fit_no_finished_run(rt: HostRuntime) {
-    assert_eq!(rt; audited(&rt, &DOUBTED_AUDIT), Some(Ok(13)));
+    assert_eq!(rt; audited_of_counter(&rt, COUNTER_DOUBTS), Some(Ok(13)));
 }
 
 #[test]
-fn prints_the_rows_that_report_files_prove(rt: HostRuntime) {
-    assert_eq!(rt; first_wrong(&rt, AUDITS), None);
+fn prints_the_rows_that_reports_of_three_federates_with_an_input_prove(rt: HostRuntime) {
+    let audited = audited(&rt, CHAIN, CHAIN_INPUT, HONEST, CHAIN_ANSWERS);
+    assert_eq!(rt; audited, Some(Ok(2)));
 }
 
 /// How many audits of files, one of which differs from an honest one, were refused, and how many gave all rows and no

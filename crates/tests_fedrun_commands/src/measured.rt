@@ -36,7 +36,18 @@ fn is_counter(stats: &Stats<'_>) -> bool {
         && federates.sent.batches == 0
 }
 
-/// Words of a run, its status, and whether all rows are counted.
+// Whether both kinds of nodes are counted, of a run in which no row was made.
+fn is_without_rows(stats: &Stats<'_>) -> bool {
+    let (Some(coordinator), Some(federates)) = (stats.coordinator, stats.federates) else {
+        return false;
+    };
+    stats.command == "run"
+        && federates.sent.frames.ltc == 0
+        && coordinator.received.frames.ltc == 0
+        && coordinator.sent.frames.msg == 0
+}
+
+/// Words of a run, its status, and whether all rows are made, or none.
 const RUNS: &[(&[&str], u8, bool)] = &[
     (&["run", "f", "-", "--frames", "1", "--stats", "s"], 0, true),
     (
@@ -57,7 +68,12 @@ fn is_measured<R: Machine + Net<Stream = TcpStream, Listener = TcpListener>>(
 ) -> Option<bool> {
     let (ended, stats) = measured(rt, words)?;
     let stats = stats?;
-    Some(ended == status && stats.status == status && is_counter(&stats) == is_whole)
+    let is_right = if is_whole {
+        is_counter(&stats)
+    } else {
+        is_without_rows(&stats)
+    };
+    Some(ended == status && stats.status == status && is_right)
 }
 
 #[test]

@@ -111,11 +111,11 @@ impl Wanted {
     }
 }
 
-/// Words over a federation and a schedule of two lines, their status, and what is told of the command.
+/// Words over the counter, or an empty file, and a schedule of two lines; their status, and what is told of the command.
 #[derive(Clone, Copy)]
 struct Case {
     words: &'static [&'static str],
-    federation: &'static str,
+    is_counter: bool,
     status: u8,
     rows: Wanted,
     latest: Wanted,
@@ -130,7 +130,7 @@ struct Case {
 /// Words of which anything is told.
 const ANY: Case = Case {
     words: &[],
-    federation: COUNTER,
+    is_counter: true,
     status: 0,
     rows: Wanted::Anything,
     latest: Wanted::Anything,
@@ -147,8 +147,9 @@ fn is_told<R: Machine + Net<Stream = TcpStream, Listener = TcpListener>>(
     rt: &R,
     case: &Case,
 ) -> bool {
+    let federation = if case.is_counter { COUNTER } else { "" };
     let files = [
-        ("f", case.federation.as_bytes()),
+        ("f", federation.as_bytes()),
         ("s", "announce src\ndeliver up src 1\n".as_bytes()),
     ];
     let mut files = NamedFiles::new(rt.alloc(), &files);
@@ -240,7 +241,7 @@ fn replay_tells_its_steps_after_each_closing_round(rt: HostRuntime) {
 /// A fault is told once the line has ended. Else it would be wiped with the line.
 const REFUSED: Case = Case {
     status: 1,
-    federation: "",
+    is_counter: false,
     ends: Wanted::AtLeast(1),
     written_before: Wanted::Just(0),
     written: Wanted::AtLeast(1),
@@ -258,13 +259,13 @@ const REFUSALS: &[Case] = &[
     },
     Case {
         words: &["run", "f", "-", "--turns", "0", "--progress"],
-        federation: COUNTER,
+        is_counter: true,
         status: 3,
         ..REFUSED
     },
     Case {
         words: &["whole", "--progress"],
-        federation: COUNTER,
+        is_counter: true,
         status: 2,
         ..REFUSED
     },

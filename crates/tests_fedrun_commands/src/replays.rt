@@ -8,10 +8,6 @@ const REPLAY: &[&[&str]] = &[&["replay", "f", "-", "s"], &["replay", "f", "-", "
 
 const CLOSED: &[&[&str]] = &[&["replay", "f", "-", "s", "--until-stuck", "9"]];
 
-const UNCLOSED: &[&[&str]] = &[&["replay", "f", "-", "s", "--until-stuck", "0"]];
-
-const LINE_1: &[&str] = &["fedrun: schedule line 1\n"];
-
 const LINE_2: &[&str] = &["fedrun: schedule line 2\n"];
 
 /// A schedule that isn't there is answered after the federation and the inputs.
@@ -30,52 +26,28 @@ const NOT_THERE: &[Answer] = &[
     ),
 ];
 
-/// Schedules over the counter.
+/// Schedules over the counter. What others print is in `tests_fedrun_replay`, and which lines are refused in
+/// `tests_files_script`.
 const CASES: &[Case] = &[Case {
     federation: &[COUNTER],
     inputs: "",
     schedules: &[
         ("", &[(REPLAY, 0, &["end\n"], &[])]),
         ("", NOT_THERE),
-        ("deliver up src 9", &[(REPLAY, 0, &["end\n"], &[])]),
         (
             "round\nround\nround\nround\nround\nround\nround\nround\nround\nround\n",
             &[(REPLAY, 0, &[COUNTER_ROWS, "end\n"], &[])],
         ),
-        ("", &[(UNCLOSED, 0, &["stopped at 0 rounds\nend\n"], &[])]),
         ("", &[(CLOSED, 0, &["stuck\n", COUNTER_ROWS, "end\n"], &[])]),
-        (
-            "announce src\nskip up src",
-            &[(CLOSED, 0, &["stuck\n", COUNTER_ROWS, "end\n"], &[])],
-        ),
-        (
-            "\n# a\nforget snk\n",
-            &[(REPLAY, 0, &["snk forgotten\nend\n"], &[])],
-        ),
-        (
-            "announce src\nforget src\ndeliver up src 1\nreconnect up src",
-            &[(
-                UNCLOSED,
-                0,
-                &["stopped at 0 rounds\nsrc forgotten\nend\n"],
-                &[],
-            )],
-        ),
         // Nothing is printed of the lines above one that is refused.
+        ("round\nadvance nobody", &[(REPLAY, 1, &[], LINE_2)]),
         ("\nadvance nobody", &[(REPLAY, 1, &[], LINE_2)]),
-        ("announce src\nadvance", &[(REPLAY, 1, &[], LINE_2)]),
-        (
-            "round\n\n# a\nround \nforget",
-            &[(REPLAY, 1, &[], &["fedrun: schedule line 4\n"])],
-        ),
-        ("announce a", &[(REPLAY, 1, &[], LINE_1)]),
-        ("deliver up src 0", &[(REPLAY, 1, &[], LINE_1)]),
     ],
 }];
 
 #[test]
 fn prints_replays(rt: HostRuntime) {
-    assert_eq!(rt; answered(&rt, CASES), Ok(24));
+    assert_eq!(rt; answered(&rt, CASES), Ok(11));
 }
 
 /// How many bytes a comment has that is a schedule, and what is answered of it.

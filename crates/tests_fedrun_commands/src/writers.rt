@@ -112,8 +112,9 @@ fn all_refusals<R: Machine + Net<Stream = TcpStream, Listener = TcpListener>>(
     rt: &R,
 ) -> Option<usize> {
     let alloc = rt.alloc();
-    let files = report_files(alloc, COUNTER, "", HONEST)?;
-    let files = named(alloc, COUNTER, "", HONEST, files.as_slice())?;
+    let counter = COUNTER;
+    let files = report_files(alloc, counter, "", HONEST)?;
+    let files = named(alloc, counter, "", HONEST, files.as_slice())?;
     Some(refusals(rt, files.as_slice()))
 }
 

@@ -1,17 +1,19 @@
-//! Tests of what is printed of frames, against lines that were worked out by hand. No program uses this crate.
+//! Tests of what is printed of frames, against lines that were worked out by hand, and of traces: one that was worked
+//! out by hand, event by event; of longer ones that each event has the fields that the format asks for, that arrows
+//! begin before they end, and that time never falls; of writers that refuse. No program uses this crate.
 //!
-//! Begin with `forms`. All that is printed of schedules of the examples stands in `lost`, `reordered` and `forgotten`.
+//! Begin with `forms`; of traces with `worked`, then `format`.
 #![tactic(auto)]
 
 #[cfg(test)]
-mod forgotten;
+mod format;
 #[cfg(test)]
 mod forms;
-#[cfg(test)]
-mod lost;
 #[cfg(test)]
 mod printed;
 #[cfg(test)]
 mod refusing;
 #[cfg(test)]
-mod reordered;
+mod traced;
+#[cfg(test)]
+mod worked;

@@ -26,29 +26,18 @@ pub(crate) fn ended<W: Write>(
     ))
 }
 
-/// All of it, over a federation; None where something isn't taken.
-pub(crate) fn printed(
-    alloc: Global,
-    federation: &str,
-    inputs: &str,
-    schedule: &str,
-    closing: Option<u32>,
-) -> Option<String> {
-    let federation = loaded(alloc, federation, inputs)?;
-    let mut out = Vec::new(alloc);
-    match ended(alloc, &federation, schedule, closing, &mut out)? {
-        Ok(()) => String::from_utf8(out).ok(),
-        Err(_) => None,
-    }
-}
-
-/// All of it, over the counter.
+/// All of it, over the counter; None where something isn't taken.
 pub(crate) fn printed_of_counter(
     alloc: Global,
     schedule: &str,
     closing: Option<u32>,
 ) -> Option<String> {
-    printed(alloc, COUNTER, "", schedule, closing)
+    let federation = loaded(alloc, COUNTER, "")?;
+    let mut out = Vec::new(alloc);
+    match ended(alloc, &federation, schedule, closing, &mut out)? {
+        Ok(()) => String::from_utf8(out).ok(),
+        Err(_) => None,
+    }
 }
 
 /// A text that has to be there.

@@ -93,7 +93,7 @@ const HELPS: &[(&str, &str)] = &[
   --log
       lines on standard error say who connects, who is lost, who is refused and why, and when it is finished
   --progress
-      a line on the terminal for each federate says whether it is there and how far it is
+      lines on the terminal say which federates are there and how far they are
   --stats FILE
       the file, in TOML, of what went over connections and how long what took
 ",

@@ -42,6 +42,14 @@ const UNPARSED: &[(&[&str], &str)] = &[
          \u{20} IN is missing: a file of recorded inputs, or - for none\n\n\
          Usage: fedrun run FED IN [--turns N] [--frames V] [--csv] [--progress] [--stats FILE]\n",
     ),
+    // the number is an option's value, and none behind IN
+    (
+        &["run", "f", "--turns", "100"],
+        "error: the following required arguments were not provided:\n  <IN>\n\n\
+         \u{20} FED is 'f': a federation file, or - for standard input\n\
+         \u{20} IN is missing: a file of recorded inputs, or - for none\n\n\
+         Usage: fedrun run FED IN [--turns N] [--frames V] [--csv] [--progress] [--stats FILE]\n",
+    ),
     (
         &[
             "join",

@@ -26,13 +26,8 @@ fn is_advised<'a>(alloc: Global, command: &str, fault: NodeFault<'a>, advice: &s
     }
 }
 
-/// Why a report isn't taken, and what to do.
+/// Why a report isn't taken, and what to do; of what is none `commands` has it.
 const REPORTS: &[(NodeFileFault, &str)] = &[
-    (
-        NodeFileFault::Report(ReportFileFault::Unread(ReadFault::NoReport)),
-        "it is no report, or one of another version: the words are FED IN COORDINATOR FEDERATE.., with - in the place \
-         of IN where there are no inputs, and the others reports or logs",
-    ),
     (
         NodeFileFault::Report(ReportFileFault::Unread(ReadFault::CutShort)),
         "it was cut short, or changed on its way: copy it again from its node",
@@ -147,31 +142,16 @@ fn is_mismatch_advised(alloc: Global) -> bool {
     }
 }
 
-/// Why a node doesn't end well, and what to do.
+/// Why a node doesn't end well, and what to do; of some that don't begin `commands` has it, of what others keep `ends`.
 const NODES: &[(HostFault<'static>, &str)] = &[
-    (
-        HostFault::Secret(SecretFault::TooShort),
-        "a secret has at least 16 bytes, not counting zeros at its end; head -c 32 /dev/urandom makes one",
-    ),
     (
         HostFault::Secret(SecretFault::TooLong),
         "a secret has at most 4096 bytes: another file may be meant",
     ),
     (
-        HostFault::Secret(SecretFault::Missing),
-        "a host's name, localhost too, and an address that isn't on loopback need --secret FILE, of the same bytes at \
-         each node; 127.0.0.1 needs none",
-    ),
-    (
         HostFault::ReportExists("a.report"),
         "a file of that name is there, or a folder: give another name, of a file, or put away what has that one where \
          it is no other node's report; nothing was begun",
-    ),
-    (
-        HostFault::PartExists("a.report"),
-        "where the file begins with fedrep 2, it is this node's log: leave out --sync no, and it goes on; else \
-         another process has this report, or a node with --sync no was ended in the midst: then end the run, remove \
-         the file, and begin the run anew",
     ),
     (
         HostFault::OtherLog("a.report"),
@@ -246,8 +226,8 @@ fn tells_what_to_do_about_nodes(rt: HostRuntime) {
 const STATS: &[(SaveFault, &str)] = &[
     (
         SaveFault::Exists,
-        "something that --stats didn't make has this name, or this name with .part behind it, or what has it can't be \
-         read: give another name; nothing was begun",
+        "something that --stats didn't save has this name, or what has it can't be read: give another name; nothing \
+         was begun",
     ),
     (
         SaveFault::CannotLook,

@@ -98,8 +98,6 @@ const NO_SECRET: &str =
 const COMMANDS: &[Told] = &[
     // federations, one of them on standard input
     (&["check", "bad"], UNKNOWN_PORT),
-    (&["run", "bad", "-"], UNKNOWN_PORT),
-    (&["draw", "bad"], UNKNOWN_PORT),
     (
         &["check", "-"],
         "fedrun: 11 UnknownName sink.x\n-:10: wrong: 11 UnknownName sink.x: no sink.x, did you mean snk.x? declare \
@@ -118,7 +116,6 @@ const COMMANDS: &[Told] = &[
     (&["whole", "f", "i", "3"], UNKNOWN_ACTION),
     // schedules
     (&["replay", "f", "-", "s"], UNKNOWN_STEP),
-    (&["draw", "f", "-", "s"], UNKNOWN_STEP),
     (
         &["replay", "f", "-", "t"],
         "fedrun: schedule line 1\nt:1: wrong: schedule line 1: no federate srk, did you mean src? there are src, \
@@ -131,15 +128,14 @@ const COMMANDS: &[Told] = &[
     ),
     // files that aren't there, and reports that are none
     (&["check", "nothing"], NO_FILE),
-    (&["whole", "f", "nothing", "3"], NO_FILE),
     (
         &["audit", "f", "-", "s", "t"],
         "fedrun: s: 100 NoReport\nhelp: it is no report, or one of another version: the words are FED IN \
          COORDINATOR FEDERATE.., with - in the place of IN where there are no inputs, and the others reports or \
          logs\n",
     ),
-    // files in each other's place: inputs, a schedule and a report where a federation is expected, a federation and a
-    // report in the place of inputs
+    // files in each other's place: inputs and a schedule where a federation is expected, a federation and a report in the
+    // place of inputs
     (
         &["check", "i"],
         "fedrun: 31 WrongShape input\ni:1: wrong: 31 WrongShape input: no key of this name stands here; it is one of \
@@ -149,11 +145,6 @@ const COMMANDS: &[Told] = &[
     ),
     (
         &["replay", "s", "f", "-"],
-        "fedrun: 30 NotToml\ns:1: wrong: 30 NotToml: key with no value, expected `=`; it is a schedule: FED and IN are \
-         named before it, as replay FED IN SCHEDULE, with - in the place of IN where there are no inputs\n",
-    ),
-    (
-        &["replay", "f", "s", "-"],
         "fedrun: 30 NotToml\ns:1: wrong: 30 NotToml: key with no value, expected `=`; it is a schedule: FED and IN are \
          named before it, as replay FED IN SCHEDULE, with - in the place of IN where there are no inputs\n",
     ),
@@ -244,19 +235,6 @@ const NODES: &[Told] = &[
             "new",
         ],
         "fedrun: 115 NoSuchFederate sink\nhelp: no federate sink, did you mean snk? there are src, snk\n",
-    ),
-    (
-        &[
-            "join",
-            "bad",
-            "-",
-            "snk",
-            "--connect",
-            "127.0.0.1:1",
-            "--report",
-            "new",
-        ],
-        UNKNOWN_PORT,
     ),
     (
         &[

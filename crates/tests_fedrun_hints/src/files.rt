@@ -7,15 +7,7 @@ use tests_outcomes::NamedFiles;
 /// A federation file, a file of recorded inputs, and all that is told.
 type Told = (&'static str, &'static str, &'static str);
 
-const GOOD: &str = "stop = \"20 ms\"\nfederate = [{ name = \"f\", physical = [\"press\"] }]\n";
-
 const MISTAKES: &[Told] = &[
-    (
-        "",
-        "",
-        "fed.toml:1: wrong: 31 WrongShape stop: the key is missing here; a duration is a text of digits, without a \
-         point, and ns, us, ms or s, as \"5 ms\", or \"0\"; it is below 2^62 ns, which are 146 years\n",
-    ),
     (
         r#"stop = "0"
 [[federate]]
@@ -38,13 +30,7 @@ reaction = [{ triggers = ["startup"], body = ["m = 1"] }]
         "fed.toml:1: wrong: 30 NotToml: unexpected key or value, expected newline, `#`; a duration stands in \
          quotes, as \"10 ms\"\n",
     ),
-    // inputs of a federation that is taken, and of one that isn't, which is told alone
-    (
-        GOOD,
-        "[[input]]\nfederate = \"f\"\naction = \"pres\"\ntime = \"0\"\nvalue = 1\n",
-        "in.toml:3: wrong: 34 UnknownAction: no pres, did you mean press? name a federate and one of its physical \
-         actions: no other name can be recorded\n",
-    ),
+    // inputs of a federation that isn't taken, which is told alone
     (
         "stop = \"0\"\n",
         "inputs = 1",
@@ -135,10 +121,6 @@ fn tells_of_files_that_are_not_read(rt: HostRuntime) {
     let text =
         "fed.toml:1: wrong: 36 OverLimit: the file has more than 1048576 bytes; write fewer\n";
     assert!(rt; is_told(&told_of_long_one(rt.alloc()), text));
-    let text =
-        "help: there is no such file, as seen from this folder, or it is a folder, or can't be read; in the place of \
-         IN a - is for no inputs\n";
-    assert!(rt; is_told(&told_of_none(rt.alloc(), "no.toml"), text));
     let text =
         "help: - is standard input: it is closed, can't be read, or was read for another of the words already; a file \
          called so is ./-\n";

@@ -25,17 +25,11 @@ fn told_of_schedule(alloc: Global, schedule: &str) -> Option<String> {
 }
 
 /// Schedules, and what is told of them: what `lint` prints.
-const SCHEDULES: &[(&str, &str)] = &[
-    (
-        "round\nround\nannounce sik\n",
-        "s:3: wrong: schedule line 3: no federate sik, did you mean sink? there are source, sink\n",
-    ),
-    (
-        "deliver up source 0\n\nround 3\n",
-        "s:1: wrong: schedule line 1: write deliver up NAME K or deliver down NAME K, K from 1 to 4294967295 in digits\n\
+const SCHEDULES: &[(&str, &str)] = &[(
+    "deliver up source 0\n\nround 3\n",
+    "s:1: wrong: schedule line 1: write deliver up NAME K or deliver down NAME K, K from 1 to 4294967295 in digits\n\
          s:3: wrong: schedule line 3: write round, and nothing else: each round has a line of its own\n",
-    ),
-];
+)];
 
 #[test]
 fn tells_what_is_wrong_with_lines(rt: HostRuntime) {

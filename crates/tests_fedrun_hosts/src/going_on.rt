@@ -31,6 +31,14 @@ const ALL_BY_SYSTEM: &[Node<'static>] = &[
     },
 ];
 
+// Whether the logs of the counter's nodes are there alone, and an audit proves its rows.
+fn is_proved<R: Machine + Net<Stream = TcpStream, Listener = TcpListener> + RandomSource>(
+    rt: &R,
+    files: &SharedFiles,
+) -> Option<bool> {
+    are_proved(rt, files, COUNTER, COUNTER_ROWS)
+}
+
 // Whether nodes with logs leave logs that have their ends, by which an audit proves the rows, and say at once that the
 // run is finished where they are begun again: by the whole log, and by one that was killed right before its end.
 fn end_with_logs<R: Machine + Net<Stream = TcpStream, Listener = TcpListener> + RandomSource>(
@@ -38,14 +46,14 @@ fn end_with_logs<R: Machine + Net<Stream = TcpStream, Listener = TcpListener> + 
     nodes: &[Node<'_>],
 ) -> Option<bool> {
     let files = SharedFiles::new(rt.alloc());
-    let are_right = run(rt, &files, ANY, nodes)? && are_proved(rt, &files, COUNTER, COUNTER_ROWS)?;
+    let are_right = run(rt, &files, ANY, nodes)? && is_proved(rt, &files)?;
     let are_finished = end_alone(rt, &files, nodes);
     for (name, part) in LOGS {
         let log = files.front(rt, name, END)?;
         files.remove(rt, name);
         files.put(rt, part, log.as_slice())?;
     }
-    let are_ended = end_alone(rt, &files, nodes) && are_proved(rt, &files, COUNTER, COUNTER_ROWS)?;
+    let are_ended = end_alone(rt, &files, nodes) && is_proved(rt, &files)?;
     Some(are_right && are_finished && are_ended)
 }
 
@@ -83,7 +91,7 @@ fn go_on<R: Machine + Net<Stream = TcpStream, Listener = TcpListener> + RandomSo
     for (_, part) in LOGS {
         are_kept = are_kept && files.file(rt, part)?.len() > HEAD;
     }
-    Some(are_kept && run(rt, files, ANY, ALL)? && are_proved(rt, files, COUNTER, COUNTER_ROWS)?)
+    Some(are_kept && run(rt, files, ANY, ALL)? && is_proved(rt, files)?)
 }
 
 #[test]
@@ -156,7 +164,7 @@ fn hears_later<R: Machine + Net<Stream = TcpStream, Listener = TcpListener> + Ra
     files.kill_all(rt);
     let address = free_address(rt)?;
     let is_told = run(rt, files, address.as_str(), TOLD_LATER)?;
-    Some(is_finished && is_unheard && is_told && are_proved(rt, files, COUNTER, COUNTER_ROWS)?)
+    Some(is_finished && is_unheard && is_told && is_proved(rt, files)?)
 }
 
 #[test]

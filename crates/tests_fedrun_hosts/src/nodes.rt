@@ -15,14 +15,13 @@ use wires_hosts::Teller;
 pub const SECRET: &str = "0123456789abcdef0123456789abcdef";
 
 /// The files that all nodes read, but for the secret: two federations, two files without inputs, and secrets that differ
-/// from that of all in the last byte, have a line feed at the end, are as short as one may be, and are too short.
+/// from that of all in the last byte, are as short as one may be, and are too short.
 const TEXTS: &[(&str, &str)] = &[
     ("f", COUNTER),
     ("replaced", REPLACED),
     ("i", ""),
     ("other", "# no input\n"),
     ("wrong", "0123456789abcdef0123456789abcdeg"),
-    ("line", "0123456789abcdef0123456789abcdef\n"),
     ("least", "0123456789abcdef"),
     ("short", "0123456789abcde"),
 ];

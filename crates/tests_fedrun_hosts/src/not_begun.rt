@@ -31,11 +31,6 @@ const NOT_BEGUN: &[(&str, u8, &str)] = &[
         "fedrun: 114 NoSecret\n",
     ),
     (
-        "join f i src --connect 10.0.0.1:7000 --report new --sync no",
-        2,
-        "fedrun: 114 NoSecret\n",
-    ),
-    (
         "coordinate f i --listen localhost:0 --report new --sync no",
         2,
         "fedrun: 114 NoSecret\n",
@@ -46,47 +41,12 @@ const NOT_BEGUN: &[(&str, u8, &str)] = &[
         "fedrun: 116 ReportExists r\n",
     ),
     (
-        "join f i src --connect 127.0.0.1:7000 --report r --sync no",
-        1,
-        "fedrun: 116 ReportExists r\n",
-    ),
-    (
-        "coordinate f i --listen 127.0.0.1:0 --report left --sync no",
-        1,
-        "fedrun: 116 ReportExists left.part\n",
-    ),
-    (
         "join f i src --connect 127.0.0.1:7000 --report left --sync no",
         1,
         "fedrun: 116 ReportExists left.part\n",
     ),
     (
-        "join f i nobody --connect 127.0.0.1:7000 --report new --sync no",
-        1,
-        "fedrun: 115 NoSuchFederate nobody\n",
-    ),
-    (
         "coordinate f i --listen 127.0.0.1:0 --sync no",
-        2,
-        "fedrun: usage\n",
-    ),
-    (
-        "coordinate f i --listen localhost --report new --sync no",
-        2,
-        "fedrun: usage\n",
-    ),
-    (
-        "coordinate f i src --listen 127.0.0.1:0 --report new --sync no",
-        2,
-        "fedrun: usage\n",
-    ),
-    (
-        "join f i src --connect 127.0.0.1 --report new --sync no",
-        2,
-        "fedrun: usage\n",
-    ),
-    (
-        "join f i src --connect 127.0.0.1:7000 --report new --patience -1 --sync no",
         2,
         "fedrun: usage\n",
     ),

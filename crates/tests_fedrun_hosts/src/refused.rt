@@ -51,10 +51,6 @@ const UNSAVED: Refused = Refused {
 
 const REFUSED: &[Refused] = &[
     UNPROVED,
-    Refused {
-        more: "--sync no --secret line --patience 1",
-        ..UNPROVED
-    },
     // Its turns are made: it has no patience.
     Refused {
         more: "--sync no --secret wrong --turns 50",
@@ -283,17 +279,12 @@ fn is_unheard<R: Machine + Net<Stream = TcpStream, Listener = TcpListener> + Ran
     Some(answered == status && printed.as_slice() == err.as_bytes() && files.are_just(rt, &[]))
 }
 
+// The longest secret, and one byte more.
 #[test]
-fn begins_nothing_where_nobody_hears_where_it_listens(rt: HostRuntime) {
-    assert_eq!(rt;
-        is_unheard(&rt, 16, 3, "fedrun: cannot write\n"),
-        Some(true)
-    );
-}
-
-#[test]
-fn refuses_a_secret_of_more_than_4096_bytes(rt: HostRuntime) {
-    let is_taken = is_unheard(&rt, 4096, 3, "fedrun: cannot write\n");
-    let is_refused = is_unheard(&rt, 4097, 1, "fedrun: 113 SecretTooLong\n");
-    assert_eq!(rt; [is_taken, is_refused], [Some(true); 2]);
+fn begins_nothing_where_nobody_hears_where_it_listens_nor_by_too_long_a_secret(rt: HostRuntime) {
+    let is_unheard = [
+        is_unheard(&rt, 4096, 3, "fedrun: cannot write\n"),
+        is_unheard(&rt, 4097, 1, "fedrun: 113 SecretTooLong\n"),
+    ];
+    assert_eq!(rt; is_unheard, [Some(true); 2]);
 }

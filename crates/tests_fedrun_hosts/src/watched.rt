@@ -2,10 +2,11 @@
 use crate::nodes::{ANY, NOBODY, SECRET, watched};
 use crate::runs::{COORDINATOR, SNK, SRC, connect};
 use crate::shared_files::{Process, SharedFiles};
-use crate::spoken::Spoken;
+use crate::spoken::{Spoken, Until, heard};
 use crossbeam_channel::{Receiver, Sender, unbounded};
 use fedrun_watch::{View, show, view_asked};
 use std::alloc::Global;
+use std::io::Write;
 use std::net::{Net, TcpListener, TcpStream};
 use std::random::RandomSource;
 use std::sync::Wait;
@@ -121,9 +122,6 @@ fn lines_alone<R: Machine + Net<Stream = TcpStream, Listener = TcpListener> + Ra
 ) -> Option<String> {
     let alloc = rt.alloc();
     let files = SharedFiles::new(alloc);
-    let (teller, told) = Teller::watched(rt, alloc).ok()?;
-    let mut disk = Process::new(rt, &files, None);
-    let mut logs = Process::new(rt, &files, None);
     let mut out = Vec::new(alloc);
     let words = [
         "join --report r --log --patience 1 --connect",
@@ -131,7 +129,19 @@ fn lines_alone<R: Machine + Net<Stream = TcpStream, Listener = TcpListener> + Ra
         "f i src",
         more,
     ];
-    let (status, err) = watched(rt, &words, SECRET, &mut disk, &mut logs, &mut out, teller)?;
+    lines_given_up(rt, &files, &words, &mut out)
+}
+
+// What is written of a node with these words that gives up, and says all else to this writer.
+fn lines_given_up<
+    R: Machine + Net<Stream = TcpStream, Listener = TcpListener> + RandomSource,
+    O: Write,
+>(rt: &R, files: &SharedFiles, words: &[&str], out: &mut O) -> Option<String> {
+    let alloc = rt.alloc();
+    let (teller, told) = Teller::watched(rt, alloc).ok()?;
+    let mut disk = Process::new(rt, files, None);
+    let mut logs = Process::new(rt, files, None);
+    let (status, err) = watched(rt, words, SECRET, &mut disk, &mut logs, out, teller)?;
     if status == 3 && err.as_slice() == "fedrun: not finished\n".as_bytes() {
         written(rt, alloc, &told)
     } else {
@@ -165,6 +175,81 @@ fn is_given_up<R: Machine + Net<Stream = TcpStream, Listener = TcpListener> + Ra
 fn a_federate_is_watched_with_a_log_and_without(rt: HostRuntime) {
     let given_up = [is_given_up(&rt, ""), is_given_up(&rt, "--sync no")];
     assert_eq!(rt; given_up, [Some(true); 2]);
+}
+
+/// A coordinator that gives up after two seconds.
+const GIVING_UP: &[&str] = &[
+    "coordinate --report c --log --listen",
+    ANY,
+    "replaced i --patience 2",
+];
+
+// What is written of `src`, which connects where a coordinator says that it listens, and gives up after a second in
+// which nothing comes.
+fn lines_of_source<R: Machine + Net<Stream = TcpStream, Listener = TcpListener> + RandomSource>(
+    rt: &R,
+    files: &SharedFiles,
+    from: &Receiver<Vec<u8>>,
+) -> Option<String> {
+    let alloc = rt.alloc();
+    let line = heard(rt, alloc, from, Until::Line)?;
+    let address = line
+        .as_str()
+        .strip_prefix("listening ")?
+        .strip_suffix("\n")?;
+    let words = [
+        "join --report src --log --patience 1 --connect",
+        address,
+        "replaced i src",
+    ];
+    let mut out = Vec::new(alloc);
+    lines_given_up(rt, files, &words, &mut out)
+}
+
+// What is written of a coordinator and of `src`, which makes all its rows, where `snk` doesn't come.
+fn lines_without_sink<R: Machine + Net<Stream = TcpStream, Listener = TcpListener> + RandomSource>(
+    rt: &R,
+) -> Option<(String, String)> {
+    let alloc = rt.alloc();
+    let files = SharedFiles::new(alloc);
+    let (to, from) = unbounded(alloc).ok()?;
+    let (coordinator, source) = thread::join(
+        rt,
+        || lines_given_up(rt, &files, GIVING_UP, &mut Spoken::new(rt, alloc, to)),
+        || lines_of_source(rt, &files, &from),
+    );
+    Some((coordinator?, source?))
+}
+
+/// How far `src` is then.
+const SRC_REACHED: &str = ", completed (0, 1), granted (20 ms, 0), 0 signals not acknowledged";
+
+/// How far `snk` is, for which both messages wait.
+const SNK_REACHED: &str =
+    ", never heard, completed nothing, granted nothing, 2 signals not acknowledged";
+
+// Whether a line says that this federate stands there.
+fn stands(lines: &str, federate: &str, reached: &str) -> bool {
+    lines
+        .lines()
+        .any(|line| line.contains(federate) && line.ends_with(reached))
+}
+
+// Whether both nodes say so as they give up: the coordinator of each federate, and `src` of itself.
+fn are_looked_at<R: Machine + Net<Stream = TcpStream, Listener = TcpListener> + RandomSource>(
+    rt: &R,
+) -> Option<bool> {
+    let (coordinator, source) = lines_without_sink(rt)?;
+    Some(
+        stands(coordinator.as_str(), " s: src: ", SRC_REACHED)
+            && stands(coordinator.as_str(), " s: snk: ", SNK_REACHED)
+            && stands(source.as_str(), " s: src: ", SRC_REACHED),
+    )
+}
+
+#[test]
+fn nodes_that_give_up_say_how_far_federates_are(rt: HostRuntime) {
+    assert_eq!(rt; are_looked_at(&rt), Some(true));
 }
 
 // What is asked for by this word, behind another one.

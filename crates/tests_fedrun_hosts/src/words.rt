@@ -48,84 +48,22 @@ fn options_are_left_out(rt: HostRuntime) {
     let coordinate = HostRequest::Coordinate(plain());
     let asked = [
         ask_for(rt.alloc(), &[COORDINATE], &coordinate),
+        ask_for(rt.alloc(), &[COORDINATE, "--stats s"], &coordinate),
         ask_for(rt.alloc(), &[JOIN], &join),
     ];
-    assert_eq!(rt; asked, [Some(true); 2]);
-}
-
-/// What the file of what is measured isn't, of a node that has another report, and a secret.
-const UNMEASURED: &[&str] = &["-", "fed.toml", "inputs", "c.report", "secret"];
-
-// What it may be of these all the same, if there is one.
-fn first_measured(alloc: Global) -> Option<&'static str> {
-    for name in UNMEASURED {
-        let words = [
-            "coordinate fed.toml inputs --listen 10.0.0.1:7000 --report c.report --secret secret --stats",
-            *name,
-        ];
-        if are_read(alloc, &words) != Some(false) {
-            return Some(*name);
-        }
-    }
-    None
-}
-
-#[test]
-fn what_is_measured_has_a_file_of_its_own(rt: HostRuntime) {
-    let coordinate = HostRequest::Coordinate(plain());
-    let asked = [
-        ask_for(rt.alloc(), &[COORDINATE, "--stats s"], &coordinate),
-        Some(first_measured(rt.alloc()).is_none()),
-    ];
-    assert_eq!(rt; asked, [Some(true); 2]);
+    assert_eq!(rt; asked, [Some(true); 3]);
 }
 
 const NAMED: &str = "join fed.toml - src --connect my_host-1.example:7000 --report c.report";
 
-/// Where a node can't be: what is no address, no name of a host, or has no port.
-const NOWHERE: &[&str] = &[
-    "10.0.0.300:7000",
-    "10.0.0.1",
-    "localhost",
-    "localhost:",
-    "localhost:65536",
-    ":7000",
-    "a.1:7000",
-    "a/b:7000",
-    "::1:7000",
-];
-
-// Where no node can be by these words, for a name that is one letter too long; or the first that one can be.
-fn first_reached(alloc: Global) -> Option<&'static str> {
-    for place in NOWHERE {
-        let words = ["join fed.toml - src --report c.report --connect", *place];
-        if are_read(alloc, &words) != Some(false) {
-            return Some(*place);
-        }
-    }
-    None
-}
-
-// Whether these words are a node's command.
-fn are_read(alloc: Global, texts: &[&str]) -> Option<bool> {
-    let given = given(alloc, texts)?;
-    Some(read_node_words(alloc, &given).is_ok())
-}
-
-// A node's place, by the longest name that a host can have and this in front of it.
-fn is_long_name_read(alloc: Global, front: &str) -> Option<bool> {
+// Whether a node's place is refused, by the longest name that a host can have and this in front of it.
+fn is_long_name_refused(alloc: Global, front: &str) -> Option<bool> {
     let mut place = String::from_str(alloc, front).ok()?;
     for _ in 0..253 {
         place.push('n').ok()?;
     }
     place.push_str(":1").ok()?;
-    are_read(
-        alloc,
-        &[
-            "join fed.toml - src --report c.report --connect",
-            place.as_str(),
-        ],
-    )
+    are_refused(alloc, UNCONNECTED, place.as_str())
 }
 
 // Whether these words ask for a federate of a coordinator on a host of this name.
@@ -144,12 +82,11 @@ fn ask_for_host(alloc: Global, texts: &[&str], host: &str) -> Option<bool> {
 fn hosts_have_names(rt: HostRuntime) {
     let asked = ask_for_host(rt.alloc(), &[NAMED], "my_host-1.example");
     assert_eq!(rt; asked, Some(true));
-    assert_eq!(rt; first_reached(rt.alloc()), None);
-    let long = [
-        is_long_name_read(rt.alloc(), ""),
-        is_long_name_read(rt.alloc(), "n"),
+    let are_refused = [
+        is_long_name_refused(rt.alloc(), ""),
+        is_long_name_refused(rt.alloc(), "n"),
     ];
-    assert_eq!(rt; long, [Some(true), Some(false)]);
+    assert_eq!(rt; are_refused, [Some(false), Some(true)]);
 }
 
 const COORDINATE_WITH_OPTIONS: &[&str] = &[
@@ -193,34 +130,77 @@ fn are_of_node(alloc: Global, texts: &[&str]) -> Option<bool> {
     Some(asks_for_node(&given(alloc, texts)?))
 }
 
+// Help is asked of no node, and other commands are left to others.
 #[test]
-fn help_is_asked_of_no_node(rt: HostRuntime) {
-    let asked = [
+fn a_node_has_commands_of_its_own(rt: HostRuntime) {
+    let are_of_node = [
         are_of_node(rt.alloc(), &[JOIN]),
-        are_of_node(rt.alloc(), &[JOIN, "--help"]),
         are_of_node(rt.alloc(), &[JOIN, "-- --help"]),
+        are_of_node(rt.alloc(), &[JOIN, "--help"]),
+        are_of_node(rt.alloc(), &["run f"]),
+        are_of_node(rt.alloc(), &["--listen coordinate"]),
     ];
-    assert_eq!(rt; asked, [Some(true), Some(false), Some(true)]);
+    assert_eq!(rt;
+        are_of_node,
+        [
+            Some(true),
+            Some(true),
+            Some(false),
+            Some(false),
+            Some(false)
+        ]
+    );
 }
 
 const UNNAMED: &str = "coordinate fed.toml - --listen 10.0.0.1:7000";
 
-/// Words, and what stands behind them: what is no such option, or is given twice, and a report without a name. A text
-/// that ends with a space has an empty word there.
-const REFUSED: &[(&str, &str)] = &[
-    (JOIN, "--patience +1"),
-    (JOIN, "--patience "),
-    (JOIN, "--patience 4294967296"),
-    (JOIN, "--turns 1.0"),
-    (JOIN, "--frames 0"),
-    (JOIN, "--frames 3"),
-    (JOIN, "--listen 10.0.0.1:7000"),
-    (JOIN, "--report s"),
-    (JOIN, "--connect 10.0.0.2:7000"),
-    (JOIN, "--csv x"),
-    (JOIN, "--help"),
-    (JOIN, "--help x"),
-    (UNNAMED, "--report "),
+const UNCONNECTED: &str = "join fed.toml - src --report c.report --connect";
+
+const MEASURED: &str =
+    "coordinate fed.toml inputs --listen 10.0.0.1:7000 --report c.report --secret secret --stats";
+
+/// Words, and what they are refused with behind them. A text that ends with a space has an empty word there.
+const REFUSED: &[(&str, &[&str])] = &[
+    // What is no such option, or is given twice.
+    (
+        JOIN,
+        &[
+            "--patience +1",
+            "--patience -1",
+            "--patience ",
+            "--patience 4294967296",
+            "--turns 1.0",
+            "--frames 0",
+            "--frames 3",
+            "--listen 10.0.0.1:7000",
+            "--report s",
+            "--connect 10.0.0.2:7000",
+            "--csv x",
+            "--help",
+            "--help x",
+        ],
+    ),
+    // The name of a federate.
+    (COORDINATE, &["src"]),
+    // No report, and one without a name.
+    (UNNAMED, &["", "--report "]),
+    // Where no node can be: what is no address, no name of a host, or has no port.
+    (
+        UNCONNECTED,
+        &[
+            "10.0.0.300:7000",
+            "10.0.0.1",
+            "localhost",
+            "localhost:",
+            "localhost:65536",
+            ":7000",
+            "a.1:7000",
+            "a/b:7000",
+            "::1:7000",
+        ],
+    ),
+    // What is measured has a file of its own.
+    (MEASURED, &["-", "fed.toml", "inputs", "c.report", "secret"]),
 ];
 
 // Whether words with this behind them are refused.
@@ -229,9 +209,9 @@ fn are_refused(alloc: Global, words: &str, more: &str) -> Option<bool> {
     Some(read_node_words(alloc, &given).is_err())
 }
 
-// What is behind the first that aren't.
-fn first_taken(alloc: Global) -> Option<&'static str> {
-    for (words, more) in REFUSED {
+// The first of these behind which words aren't.
+fn first_taken_behind<'a>(alloc: Global, words: &str, all: &[&'a str]) -> Option<&'a str> {
+    for more in all {
         if are_refused(alloc, words, more) != Some(true) {
             return Some(*more);
         }
@@ -239,17 +219,18 @@ fn first_taken(alloc: Global) -> Option<&'static str> {
     None
 }
 
-#[test]
-fn other_options_are_refused(rt: HostRuntime) {
-    assert_eq!(rt; first_taken(rt.alloc()), None);
+// The same of all.
+fn first_taken(alloc: Global) -> Option<&'static str> {
+    for (words, all) in REFUSED {
+        let taken = first_taken_behind(alloc, words, *all);
+        if taken.is_some() {
+            return taken;
+        }
+    }
+    None
 }
 
 #[test]
-fn other_commands_are_left_to_others(rt: HostRuntime) {
-    let are_of_node = [
-        are_of_node(rt.alloc(), &["run f"]),
-        are_of_node(rt.alloc(), &["audit f"]),
-        are_of_node(rt.alloc(), &["--listen coordinate"]),
-    ];
-    assert_eq!(rt; are_of_node, [Some(false); 3]);
+fn other_words_are_refused(rt: HostRuntime) {
+    assert_eq!(rt; first_taken(rt.alloc()), None);
 }

@@ -10,7 +10,6 @@ use tests_samples::{COUNTER, Machine, REPLACED};
 /// Federations with two federates: the file, further words of all nodes, the federation, and its rows.
 const WORKED: &[(&str, &str, &str, &str)] = &[
     ("f", "--sync no", COUNTER, COUNTER_ROWS),
-    ("f", "--sync no --secret least", COUNTER, COUNTER_ROWS),
     (
         "replaced",
         "--sync no --secret least",

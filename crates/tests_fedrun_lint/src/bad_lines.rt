@@ -125,6 +125,14 @@ const LINES: &[Mistake] = &[
         "\"schedule 5 ms act 7\": schedule wants an action, a delay and a value, in this order, ",
     ),
     (
+        "schedule my-act 5 ms 7",
+        "\"schedule my-act 5 ms 7\": my-act is no action's name: ",
+    ),
+    (
+        "schedule out.a 5ms 7",
+        "\"schedule out.a 5ms 7\": out.a is no action's name: ",
+    ),
+    (
         "schedule act 5 7",
         "\"schedule act 5 7\": 5 has no unit: ns, us, ms or s follows, ",
     ),

@@ -125,6 +125,11 @@ const NAMES: &[Mistake] = &[
         "fed.toml:14: wrong: 21 UnknownOperand snk 1 1: out.later is no output, and the name of an action: schedule \
          gives that a value, as schedule act 5 ms 7; declare the state",
     ),
+    // a state, which is no action, in a line of two names that aren't there
+    (
+        "reaction = [{ triggers = [\"tick\"], body = [\"out.n = true\"] }]",
+        "fed.toml:14: wrong: 21 UnknownOperand snk 1 1: no out.n; declare the state",
+    ),
     (
         "reaction = [{ triggers = [\"tick\"], body = [\"schedule button 0 n\"] }]",
         "fed.toml:14: wrong: 21 UnknownOperand snk 1 1: button can only be read, as in.button; declare the state",

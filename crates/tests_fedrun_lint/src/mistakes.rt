@@ -136,6 +136,22 @@ const FILES: &[Mistake] = &[
          table; the [ of line 4 isn't closed; write ]",
     ),
     (
+        "stop = \"0\"\n[[federate]]\nname = \"a\"\ninputs = [\"x\"\noutputs = [\"y\"]",
+        "fed.toml:5: wrong: 30 NotToml: missing comma between array elements, expected `,` or `]`; the [ of line 4 \
+         isn't closed; write ]",
+    ),
+    // arrays that are closed, of texts without quotes
+    (
+        "stop = \"0\"\n[[federate]]\nname = \"a\"\ninputs = [\nx, y\n]\noutputs = [\"z\"]",
+        "fed.toml:5: wrong: 30 NotToml: invalid value, expected a string, number, boolean, date-time, array or inline \
+         table; a text stands in quotes, ",
+    ),
+    (
+        "stop = \"0\"\n[[federate]]\nname = \"a\"\n[[federate.reaction]]\nbody = [\nn = n + 1\n]",
+        "fed.toml:6: wrong: 30 NotToml: invalid value, expected a string, number, boolean, date-time, array or inline \
+         table; a text stands in quotes, ",
+    ),
+    (
         "stop = \u{201c}0\u{201d}",
         "fed.toml:1: wrong: 30 NotToml: invalid value, expected a string, number, boolean, date-time, array or inline \
          table; its quotes are those of print: ",

@@ -114,6 +114,11 @@ const LINES: &[(&[u8], usize, &str)] = &[
         "it is TOML, and no step: the words are FED IN SCHEDULE, with - in the place of IN for no inputs",
     ),
     (
+        b"resend up sink = 1",
+        1,
+        "write resend up NAME or resend down NAME",
+    ),
+    (
         b"reconnect down",
         1,
         "write reconnect up NAME or reconnect down NAME",
@@ -271,6 +276,18 @@ const ALL_OF_THEM: &str =
                            advance, deliver, resend, reconnect, forget, skip, round\n\
                            s:9: wrong: schedule line 9: write skip up NAME or skip down NAME\n";
 
+/// A schedule with lines of TOML, and what is told of it: it has a step, and is no file of TOML.
+const MIXED: &str = "stop = \"0\"\nrund\nround\n[[federate]]\nforget\n";
+
+const ALL_OF_MIXED: &str =
+    "s:1: wrong: schedule line 1: it is TOML, and no step: the words are FED IN SCHEDULE, with - in the place of IN \
+                            for no inputs\n\
+                            s:2: wrong: schedule line 2: no step rund, did you mean round? there are announce, \
+                            advance, deliver, resend, reconnect, forget, skip, round\n\
+                            s:4: wrong: schedule line 4: it is TOML, and no step: the words are FED IN SCHEDULE, \
+                            with - in the place of IN for no inputs\n\
+                            s:5: wrong: schedule line 5: write forget NAME\n";
+
 const TOO_LONG: &str =
     "s:1: wrong: 36 OverLimit: write fewer lines: a schedule has at most 1,048,576 bytes\n";
 
@@ -296,12 +313,19 @@ fn are_told(
 }
 
 // Whether all is told of a schedule of a federation that is taken, beside inputs of either kind.
-fn are_lines_told(alloc: Global) -> [bool; 4] {
+fn are_lines_told(alloc: Global) -> [bool; 5] {
     let federation = Some(FEDERATION);
     let others = Some(OTHERS.as_bytes());
     [
         are_told(alloc, federation, NO_INPUTS, Some(GOOD.as_bytes()), &[]),
         are_told(alloc, federation, NO_INPUTS, others, &[ALL_OF_THEM]),
+        are_told(
+            alloc,
+            federation,
+            NO_INPUTS,
+            Some(MIXED.as_bytes()),
+            &[ALL_OF_MIXED],
+        ),
         are_told(
             alloc,
             federation,
@@ -338,7 +362,7 @@ fn is_form_told(alloc: Global) -> [bool; 3] {
 
 #[test]
 fn tells_each_line_of_a_schedule(rt: HostRuntime) {
-    assert_eq!(rt; are_lines_told(rt.alloc()), [true; 4]);
+    assert_eq!(rt; are_lines_told(rt.alloc()), [true; 5]);
     assert_eq!(rt; is_form_told(rt.alloc()), [true; 3]);
 }
 

@@ -91,20 +91,6 @@ end
                 closing: None,
                 text: &["src (0, 0) [t] -> [y=1]\nend\n"],
             },
-            // The same without the line that skips: line 3 brings the TAG, src runs a tag in each of the rounds after it (lines
-            // 4 and 6), and snk its first one in line 6, after it was granted that in line 4.
-            Play {
-                schedule: "announce src\ndeliver up src 1\nround\nround\ndeliver down src 2\n",
-                rounds: 1,
-                closing: None,
-                text: &[
-                    "src (0, 0) [t] -> [y=1]
-src (10 ms, 0) [t] -> [y=2]
-snk (0, 0) [x=1] -> [total=1]
-end
-",
-                ],
-            },
             // Rounds until it is stuck.
             Play {
                 schedule: "",
@@ -125,58 +111,6 @@ end
                 rounds: 0,
                 closing: Some(20),
                 text: &["stuck\n", COUNTER_ROWS, "end\n"],
-            },
-            // Four rounds. In the second src runs its first tag, and snk is granted its own first at the end of it. In the
-            // third snk says what it has next and then runs it; what comes next it says in the fourth, and isn't granted before
-            // the end of that.
-            Play {
-                schedule: "round\nround\nround\nround\n",
-                rounds: 0,
-                closing: None,
-                text: &[
-                    "src (0, 0) [t] -> [y=1]
-src (10 ms, 0) [t] -> [y=2]
-src (20 ms, 0) [t] -> [y=3]
-snk (0, 0) [x=1] -> [total=1]
-end
-",
-                ],
-            },
-            // Closing rounds after a federate forgot, whose steps have the number after the last line's: what snk announces is
-            // refused in each of them; the first message of src in the second and, sent again, in the third; its second message
-            // in the third.
-            Play {
-                schedule: "forget snk\n",
-                rounds: 0,
-                closing: Some(3),
-                text: &[
-                    "step 2 refused 51
-step 2 refused 51
-step 2 refused 51
-step 2 refused 51
-step 2 refused 51
-step 2 refused 51
-stopped at 3 rounds
-src (0, 0) [t] -> [y=1]
-src (10 ms, 0) [t] -> [y=2]
-snk forgotten
-end
-",
-                ],
-            },
-            // A TAG that rounds leave out is sent again by the coordinator.
-            Play {
-                schedule: "announce src\ndeliver up src 1\nskip down src\n",
-                rounds: 0,
-                closing: Some(20),
-                text: &["stuck\n", COUNTER_ROWS, "end\n"],
-            },
-            // A new incarnation.
-            Play {
-                schedule: "announce snk\ndeliver up snk 1\nforget snk\nreconnect up snk\ndeliver up snk 2\n",
-                rounds: 0,
-                closing: None,
-                text: &["step 5 refused 51\nsnk forgotten\nend\n"],
             },
             // Many steps, for which no limit is stated. Each round has a step or more by which each of the two federates
             // announces, and one by which it advances: these are 80,000 steps.

@@ -31,7 +31,7 @@ fn ask(alloc: Global, words: &[&str], wanted: Result<&Request<'_>, WordsFault>) 
 }
 
 // Words, and the request that they are.
-fn whole_and_check() -> [(&'static [&'static str], Request<'static>); 7] {
+fn whole_and_check() -> [(&'static [&'static str], Request<'static>); 4] {
     [
         (
             &["whole", "f", "i", "0"],
@@ -61,32 +61,10 @@ fn whole_and_check() -> [(&'static [&'static str], Request<'static>); 7] {
             }),
         ),
         (
-            &["whole", "f", "i", "--", "7"],
-            Request::Whole(WholeRequest {
-                federation: "f",
-                inputs: "i",
-                turns: 7,
-                format: RowFormat::Text,
-            }),
-        ),
-        (
-            &["whole", "f", "--progress", "i", "7"],
-            Request::Whole(WholeRequest {
-                federation: "f",
-                inputs: "i",
-                turns: 7,
-                format: RowFormat::Text,
-            }),
-        ),
-        (
             &["check", "--", "--csv"],
             Request::Check(CheckRequest {
                 federation: "--csv",
             }),
-        ),
-        (
-            &["check", "--", "-f"],
-            Request::Check(CheckRequest { federation: "-f" }),
         ),
     ]
 }
@@ -240,17 +218,8 @@ fn reads_record(rt: HostRuntime) {
 }
 
 // Words of `frames`, `trace`, `draw` and `lint`, and the request that they are.
-fn looked_at() -> [(&'static [&'static str], Request<'static>); 12] {
+fn looked_at() -> [(&'static [&'static str], Request<'static>); 10] {
     [
-        (
-            &["frames", "f", "-", "s"],
-            Request::Frames(FramesRequest {
-                federation: "f",
-                inputs: "-",
-                schedule: "s",
-                until_stuck: None,
-            }),
-        ),
         (
             &["frames", "--until-stuck", "7", "f", "i", "s"],
             Request::Frames(FramesRequest {
@@ -330,14 +299,6 @@ fn looked_at() -> [(&'static [&'static str], Request<'static>); 12] {
             Request::Lint(LintRequest {
                 federation: "f",
                 inputs: "-",
-                schedule: None,
-            }),
-        ),
-        (
-            &["lint", "f", "i"],
-            Request::Lint(LintRequest {
-                federation: "f",
-                inputs: "i",
                 schedule: None,
             }),
         ),

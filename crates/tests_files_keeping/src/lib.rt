@@ -8,5 +8,3 @@
 mod failing;
 #[cfg(test)]
 mod machine;
-#[cfg(test)]
-mod printed;

@@ -1,6 +1,6 @@
 //! Files whose digest is right, and in which no node could say what is said.
 use crate::changed::fault;
-use crate::worked::{SAID, file};
+use crate::worked::file;
 use files_reports::{ContentFault, ReadFault};
 use sha2::{Digest, Sha256};
 use std::alloc::{AllocError, Global};
@@ -29,28 +29,13 @@ fn fault_of(alloc: Global, said: &[u8]) -> Option<ReadFault> {
     }
 }
 
-// How many fronts of what federate 0 says, from the shortest on, are too short.
-fn short_fronts(alloc: Global) -> Option<usize> {
-    for length in 0..SAID.len() {
-        if fault_of(alloc, SAID.get(..length)?) != SHORT {
-            return Some(length);
-        }
-    }
-    Some(SAID.len())
-}
-
-#[test]
-fn refuses_each_prefix_of_what_is_said(rt: HostRuntime) {
-    assert_eq!(rt; short_fronts(rt.alloc()), Some(179));
-}
-
-/// Bytes, and what is wrong with a file in which they are said behind a front and before what follows it.
+/// Bytes, and what is wrong with a file in which they are said behind a front.
 type Part = (&'static [u8], Option<ReadFault>);
 
 // The place of the first of these parts with which a file is read otherwise.
-fn first_wrong(alloc: Global, front: &[u8], parts: &[Part], back: &[u8]) -> Option<usize> {
+fn first_wrong(alloc: Global, front: &[u8], parts: &[Part]) -> Option<usize> {
     for (place, (part, fault)) in parts.iter().enumerate() {
-        if fault_between(alloc, front, part, back) != *fault {
+        if fault_behind(alloc, front, part) != *fault {
             return Some(place);
         }
     }
@@ -58,17 +43,16 @@ fn first_wrong(alloc: Global, front: &[u8], parts: &[Part], back: &[u8]) -> Opti
 }
 
 // Why a file isn't read in which these are said, one behind the other.
-fn fault_between(alloc: Global, front: &[u8], part: &[u8], back: &[u8]) -> Option<ReadFault> {
-    match between(alloc, front, part, back) {
+fn fault_behind(alloc: Global, front: &[u8], part: &[u8]) -> Option<ReadFault> {
+    match behind(alloc, front, part) {
         Ok(said) => fault_of(alloc, &said),
         Err(_) => Some(ReadFault::Memory),
     }
 }
 
-fn between(alloc: Global, front: &[u8], part: &[u8], back: &[u8]) -> Result<Vec<u8>, AllocError> {
+fn behind(alloc: Global, front: &[u8], part: &[u8]) -> Result<Vec<u8>, AllocError> {
     let mut bytes = Vec::from_slice(alloc, front)?;
     bytes.extend_from_slice(part)?;
-    bytes.extend_from_slice(back)?;
     Ok(bytes)
 }
 
@@ -131,34 +115,19 @@ const EVENTS: &[Part] = &[
 
 #[test]
 fn refuses_what_is_no_event(rt: HostRuntime) {
-    assert_eq!(rt; first_wrong(rt.alloc(), ONE_EVENT, EVENTS, &[]), None);
+    assert_eq!(rt; first_wrong(rt.alloc(), ONE_EVENT, EVENTS), None);
 }
 
 /// Federate 0, with one row.
 const ONE_ROW: &[u8] = &[0, 0, 0, 0, 0, 0, 0, 0, 0, 1];
 
-/// Tags: the last one, FOREVER, and what is none.
-const TAGS: &[Part] = &[
-    (
-        &[0x3f, 255, 255, 255, 255, 255, 255, 255, 255, 255, 255, 255],
-        None,
-    ),
-    (&[255; 12], None),
+/// Rows at what is no tag; at the first tag with more inputs, and with more outputs, than there is memory for.
+const ROWS: &[Part] = &[
     (&[0x40, 0, 0, 0, 0, 0, 0, 0, 0, 0, 0, 0], BAD_TAG),
     (
         &[255, 255, 255, 255, 255, 255, 255, 255, 255, 255, 255, 254],
         BAD_TAG,
     ),
-];
-
-// No entries and no events are behind them.
-#[test]
-fn takes_the_tags_of_the_wire_alone(rt: HostRuntime) {
-    assert_eq!(rt; first_wrong(rt.alloc(), ONE_ROW, TAGS, &[0; 24]), None);
-}
-
-/// Rows at the first tag with more inputs, and with more outputs, than there is memory for.
-const TOO_MANY_ENTRIES: &[Part] = &[
     (
         &[
             0, 0, 0, 0, 0, 0, 0, 0, 0, 0, 0, 0, 255, 255, 255, 255, 255, 255, 255, 255,
@@ -176,11 +145,8 @@ const TOO_MANY_ENTRIES: &[Part] = &[
 
 // No room is taken for entries that a row says it has, before they are read.
 #[test]
-fn refuses_a_count_of_entries_that_is_too_great(rt: HostRuntime) {
-    assert_eq!(rt;
-        first_wrong(rt.alloc(), ONE_ROW, TOO_MANY_ENTRIES, &[]),
-        None
-    );
+fn refuses_what_is_no_row(rt: HostRuntime) {
+    assert_eq!(rt; first_wrong(rt.alloc(), ONE_ROW, ROWS), None);
 }
 
 /// Federate 0 with more rows, and the coordinator with more events, than there is memory for.
@@ -192,5 +158,5 @@ const TOO_MANY: &[Part] = &[
 // A count that no file has bytes for is refused as soon as they end, and takes no memory of its own.
 #[test]
 fn refuses_a_count_that_is_too_great(rt: HostRuntime) {
-    assert_eq!(rt; first_wrong(rt.alloc(), &[], TOO_MANY, &[]), None);
+    assert_eq!(rt; first_wrong(rt.alloc(), &[], TOO_MANY), None);
 }

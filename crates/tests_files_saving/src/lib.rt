@@ -11,8 +11,6 @@ mod machine;
 #[cfg(test)]
 mod memory_disk;
 #[cfg(test)]
-mod printed;
-#[cfg(test)]
 mod saved;
 #[cfg(test)]
 mod unsynced;

@@ -1,5 +1,5 @@
-//! Tests of the schedule file: each form of a line and what it asks for, which lines are refused, how lines are
-//! counted, and how long a schedule may be.
+//! Tests of the schedule file: each form of a line and what it asks for, which lines are refused, and how lines are
+//! counted.
 //!
 //! Begin with `FORMS` in `schedules`.
 #![tactic(auto)]

@@ -77,6 +77,9 @@ pub trait Tap {
         false
     }
 
+    /// So many bytes were read at once at an end, one at least.
+    fn reads(&self, _end: End, _bytes: usize) {}
+
     /// This frame came to an end.
     fn comes(&self, _end: End, _frame: &Frame) {}
 }
@@ -123,6 +126,9 @@ impl<'a, T: Transport, P: Tap> Transport for Tapped<'a, T, P> {
         }
         match self.inner.recv(rt, room) {
             Ok(count) => {
+                if count > 0 {
+                    self.tap.reads(self.end, count);
+                }
                 show(self.tap, self.end, &mut self.frames, &room[..count]);
                 Ok(count)
             }

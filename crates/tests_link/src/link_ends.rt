@@ -1,4 +1,4 @@
-//! Link ends by worked examples, and with out of memory.
+//! Link ends by worked examples.
 use link::{Arrival, LinkEnd, LinkFault};
 use signal::{Frame, Hello, Signal};
 use std::alloc::Global;
@@ -181,57 +181,4 @@ fn is_closed_by_a_refusal(rt: HostRuntime) {
         Step::Resends(0, None),
     ];
     assert_eq!(rt; first_wrong(rt.alloc(), 3, &steps), None);
-}
-
-// Whether this many signals are taken one after the other, and each that was refused out of memory the next time.
-fn takes_all(end: &mut LinkEnd, signals: u16) -> bool {
-    for number in 1..=signals {
-        let frame = data(u64::from(number), number);
-        let left = end.room_left();
-        match end.offer(signal(number)) {
-            Ok(offered) if offered == frame => {}
-            Err(LinkFault::Memory)
-                if end.room_left() == left && end.offer(signal(number)) == Ok(frame) => {}
-            _ => return false,
-        }
-    }
-    true
-}
-
-// Whether the next time what was refused out of memory is done.
-fn reserves(end: &mut LinkEnd, signals: usize) -> bool {
-    let left = end.room_left();
-    match end.reserve(signals) {
-        Ok(()) => true,
-        Err(fault) => {
-            fault == LinkFault::Memory && end.room_left() == left && end.reserve(signals).is_ok()
-        }
-    }
-}
-
-// How many frames are sent again, the next time if memory was refused.
-fn resent(end: &LinkEnd) -> Option<usize> {
-    let frames = match end.resend() {
-        Ok(frames) => frames,
-        Err(memory) if memory.number() == 54 => end.resend().ok()?,
-        Err(_) => return None,
-    };
-    Some(frames.len())
-}
-
-// Whether signals are taken, room is reserved, and what was taken is sent again.
-fn does_all(end: &mut LinkEnd) -> bool {
-    takes_all(end, 20)
-        && end.reserve(usize::MAX) == Err(LinkFault::Memory)
-        && reserves(end, 50)
-        && end.unacked() == 20
-        && resent(end) == Some(20)
-}
-
-// Whichever allocation is refused, nothing has changed and the same call succeeds later: `rt try --test --fail-alloc
-// N`.
-#[test]
-fn changes_nothing_without_memory(rt: HostRuntime) {
-    let mut end = LinkEnd::new(rt.alloc(), 4, 1, 100);
-    assert!(rt; does_all(&mut end));
 }

@@ -1,6 +1,6 @@
 //! How federation files and input files are answered: which are taken, and what is printed of each other.
 use crate::federations::{CYCLE, FOUR, ONE_ACTION, TWO_SOURCES, loaded};
-use loadfed::{LoadFault, MOST_BYTES, MOST_INPUT_BYTES, load, load_inputs};
+use loadfed::{LoadFault, load_inputs};
 use plan::Plan;
 use std::alloc::Global;
 use std::test::Fail;
@@ -34,17 +34,10 @@ fn first_wrong<'a>(alloc: Global, front: &str, answers: &[(&'a str, &str)]) -> O
 /// Whole files.
 const FILES: &[(&str, &str)] = &[
     ("", "31 WrongShape stop"),
-    ("stop = 5", "31 WrongShape stop"),
     ("stop = \"5 h\"", "31 WrongShape stop"),
-    ("stop = \"4611686018427387904 ns\"", "31 WrongShape stop"),
     ("stop = \"0\"", "10 NoFederate"),
     ("stop = \"0\"\nstops = \"0\"", "31 WrongShape stops"),
     ("stop = \"0\"\nfederate = 1", "31 WrongShape federate"),
-    ("stop = \"0\"\nfederate = [1]", "31 WrongShape federate"),
-    (
-        "stop = \"0\"\nconnection = \"a\"",
-        "31 WrongShape connection",
-    ),
     ("stop = ", "30 NotToml"),
 ];
 
@@ -58,17 +51,6 @@ const FEDERATES: &[(&str, &str)] = &[
     (
         "federate = [{ name = \"f\" }, { name = \"f\" }]",
         "17 RepeatedName f",
-    ),
-    (
-        "federate = [{ name = \"f\", inputs = [\"x\"], outputs = [\"x\"] }]",
-        "17 RepeatedName x",
-    ),
-    (
-        r#"federate = [{ name = "f", inputs = [
-            "a", "b", "c", "d", "e", "f", "g", "h", "i", "j", "k", "l", "m", "n", "o", "p", "q",
-            "A", "B", "C", "D", "E", "F", "G", "H", "I", "J", "K", "L", "M", "N", "O", "P",
-        ] }]"#,
-        "14 OverLimit",
     ),
     (
         r#"federate = [{
@@ -86,28 +68,13 @@ const LINES: &[(&str, &str)] = &[
     ("rank = 1", "31 WrongShape rank"),
     ("inputs = 1", "31 WrongShape inputs"),
     ("outputs = [\"a b\"]", "31 WrongShape outputs"),
-    ("actions = [1]", "31 WrongShape actions"),
-    ("physical = [\"when\"]", "31 WrongShape physical"),
     ("timers = [1]", "31 WrongShape timers"),
     ("timers = [{ offset = \"0\" }]", "31 WrongShape name"),
     (
         "timers = [{ name = \"t\", offset = \"1 h\" }]",
         "31 WrongShape offset",
     ),
-    (
-        "timers = [{ name = \"t\", period = 4 }]",
-        "31 WrongShape period",
-    ),
-    (
-        "timers = [{ name = \"t\", after = \"0\" }]",
-        "31 WrongShape after",
-    ),
-    ("state = 1", "31 WrongShape state"),
     ("state = [{ name = \"n\" }]", "31 WrongShape value"),
-    (
-        "state = [{ name = \"n\", value = \"1\" }]",
-        "31 WrongShape value",
-    ),
     (
         "state = [{ name = \"n\", value = 1 }, { name = \"n\", value = 2 }]",
         "23 RepeatedState a",
@@ -122,27 +89,10 @@ const LINES: &[(&str, &str)] = &[
         "36 OverLimit",
     ),
     ("reaction = [{ body = [] }]", "31 WrongShape triggers"),
-    ("reaction = [{ triggers = [] }]", "31 WrongShape triggers"),
-    (
-        "reaction = [{ triggers = [\"startup\"], body = [1] }]",
-        "31 WrongShape body",
-    ),
     ("[[connection]]\nto = \"a.x\"", "31 WrongShape from"),
     (
         "[[connection]]\nfrom = \"a\"\nto = \"a.x\"",
         "31 WrongShape from",
-    ),
-    (
-        "[[connection]]\nfrom = \"a.y\"\nto = \"a.x.z\"",
-        "31 WrongShape to",
-    ),
-    (
-        "[[connection]]\nfrom = \"a.y\"\nto = \"a.x\"\nafter = \"5 h\"",
-        "31 WrongShape after",
-    ),
-    (
-        "[[connection]]\nfrom = \"a.y\"\nto = \"a.x\"\ndelay = \"5 s\"",
-        "31 WrongShape delay",
     ),
 ];
 
@@ -152,22 +102,10 @@ const CONNECTIONS: &[(&str, &str)] = &[
         "connection = [{ from = \"a.z\", to = \"b.x\" }]",
         "11 UnknownName a.z",
     ),
-    (
-        "connection = [{ from = \"a.y\", to = \"e.x\" }]",
-        "11 UnknownName e.x",
-    ),
-    (
-        "connection = [{ from = \"a.y\", to = \"coordinator.x\" }]",
-        "11 UnknownName coordinator.x",
-    ),
     (TWO_SOURCES, "12 TwoSources b.x"),
     (
         "connection = [{ from = \"b.y\", to = \"b.x\" }]",
         "13 ZeroDelayCycle b",
-    ),
-    (
-        "connection = [{ from = \"a.y\", to = \"b.x\" }, { from = \"b.y\", to = \"a.x\" }]",
-        "13 ZeroDelayCycle a b",
     ),
     (CYCLE, "13 ZeroDelayCycle b d c"),
     (
@@ -194,22 +132,12 @@ triggers = ["x"]
 
 /// Bodies of the reaction.
 const BODIES: &[(&str, &str)] = &[
-    ("body = [\"n = startup\"]", "20 BadLine f 1 1"),
     ("body = [\"n = 1\", \"n = 1 : 2\"]", "20 BadLine f 1 2"),
-    ("body = [\"schedule act 5 kg 1\"]", "20 BadLine f 1 1"),
-    (
-        "body = [\"schedule act 4611686018427387904 ns 1\"]",
-        "20 BadLine f 1 1",
-    ),
-    ("body = [\"when n : when n : n = 1\"]", "20 BadLine f 1 1"),
     (
         "body = [\"q = 1 + 99999999999999999999\"]",
         "20 BadLine f 1 1",
     ),
     ("body = [\"out.x = 1\"]", "21 UnknownOperand f 1 1"),
-    ("body = [\"schedule p 0 1\"]", "21 UnknownOperand f 1 1"),
-    ("body = [\"n = in.startup\"]", "21 UnknownOperand f 1 1"),
-    ("body = [\"when q : n = 1\"]", "21 UnknownOperand f 1 1"),
     (
         "[[federate.reaction]]\ntriggers = [\"t\"]",
         "21 UnknownOperand f 2 0",
@@ -237,7 +165,6 @@ fn are_inputs_answered(alloc: Global, plan: &Plan, file: &str, text: &str) -> bo
 const INPUTS: &[(&str, &str)] = &[
     ("", ""),
     ("inputs = []", "31 WrongShape inputs"),
-    ("input = 1", "31 WrongShape input"),
     (
         "input = [{ federate = \"f\", action = \"p\", time = \"0\", value = 1 }]",
         "",
@@ -247,32 +174,12 @@ const INPUTS: &[(&str, &str)] = &[
         "31 WrongShape federate",
     ),
     (
-        "input = [{ federate = \"f\", action = 1, time = \"0\", value = 1 }]",
-        "31 WrongShape action",
-    ),
-    (
-        "input = [{ federate = \"f\", action = \"p\", value = 1 }]",
-        "31 WrongShape time",
-    ),
-    (
-        "input = [{ federate = \"f\", action = \"p\", time = \"0\" }]",
-        "31 WrongShape value",
-    ),
-    (
         "input = [{ federate = \"f\", action = \"p\", time = \"0\", micro = 4294967295, value = 1 }]",
         "",
     ),
     (
         "input = [{ federate = \"f\", action = \"p\", time = \"0\", micro = 4294967296, value = 1 }]",
         "31 WrongShape micro",
-    ),
-    (
-        "input = [{ federate = \"f\", action = \"p\", time = \"0\", micro = -1, value = 1 }]",
-        "31 WrongShape micro",
-    ),
-    (
-        "input = [{ federate = \"f\", action = \"7 q\", time = \"0\", value = 1 }]",
-        "34 UnknownAction",
     ),
     (
         "input = [{ federate = \"f\", action = \"x\", time = \"0\", value = 1 }]",
@@ -299,34 +206,9 @@ fn wrong_inputs(alloc: Global, plan: &Plan) -> Option<&'static str> {
     None
 }
 
-// Whether this many bytes of an input file are too many.
-fn are_too_many(alloc: Global, plan: &Plan, count: usize) -> bool {
-    match Vec::from_elem(alloc, b'#', count) {
-        Ok(long) => matches!(
-            load_inputs(alloc, long.as_slice(), plan),
-            Err(LoadFault::OverLimit)
-        ),
-        Err(_) => false,
-    }
-}
-
-// The same of a federation file.
-fn is_too_long(alloc: Global, count: usize) -> bool {
-    match Vec::from_elem(alloc, b'#', count) {
-        Ok(long) => matches!(load(alloc, long.as_slice()), Err(LoadFault::OverLimit)),
-        Err(_) => false,
-    }
-}
-
 #[test]
 fn takes_inputs_or_answers_their_fault(rt: HostRuntime) -> Result<(), Fail> {
     let (plan, _programs) = loaded(rt.alloc(), ONE_ACTION, "")?;
     assert_eq!(rt; wrong_inputs(rt.alloc(), &plan), None);
-    assert!(rt; are_too_many(rt.alloc(), &plan, MOST_INPUT_BYTES + 1));
     Ok(())
-}
-
-#[test]
-fn refuses_a_federation_that_is_too_long(rt: HostRuntime) {
-    assert!(rt; is_too_long(rt.alloc(), MOST_BYTES + 1));
 }

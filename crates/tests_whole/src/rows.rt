@@ -32,8 +32,8 @@ fn is_row(row: &RowView<'_>, federate: usize, time: u64, input: i64, output: i64
         && row.outputs() == [Entry::new(0, output)].as_slice()
 }
 
-/// Whether these are the first rows, this many of them.
-pub(crate) fn are_first(rows: &Rows, count: usize) -> bool {
+// Whether these are the first rows, this many of them.
+fn are_first(rows: &Rows, count: usize) -> bool {
     rows.len() == count && count <= ROWS.len() && are(rows, &ROWS[..count])
 }
 
@@ -70,25 +70,12 @@ fn makes_six(alloc: Global, plan: &Plan, programs: &Programs, inputs: &Inputs) -
     Some(fresh && four && rest && no_more && all_gone)
 }
 
-// Whether the last two rows stand alone where the four before them were let go. None where there was no memory for it.
-fn makes_two(alloc: Global, plan: &Plan, programs: &Programs, inputs: &Inputs) -> Option<bool>
-    requires programs { AreProgramsOf plan.now programs.now }
-    requires inputs { AreInputsOf plan.now inputs.now }
-{
-    let mut whole = Whole::new(alloc, plan, programs, inputs).ok()?;
-    let four = whole.turns(4) == Ok(4);
-    whole.discard();
-    let rest = whole.turns(100) == Ok(2);
-    Some(four && rest && are(whole.rows(), &ROWS[4..]))
-}
-
 // Whether the counter's rows are made so.
 fn are_made(alloc: Global, plan: &Plan, programs: &Programs) -> bool
     requires { AreProgramsOf plan.now programs.now }
 {
     match load_inputs(alloc, b"", plan) {
-        Ok(inputs) => makes_six(alloc, plan, programs, &inputs) == Some(true)
-            && makes_two(alloc, plan, programs, &inputs) == Some(true),
+        Ok(inputs) => makes_six(alloc, plan, programs, &inputs) == Some(true),
         Err(_) => false,
     }
 }

@@ -1,9 +1,9 @@
 //! Who isn't let in or counts as told, and who isn't believed.
 use crate::sides::{
     ALL, COORDINATOR_RANDOM, FEDERATE_RANDOM, Messages, OTHER_RANDOM, SECRET, coordinator,
-    distrusts, federate, federate_with, files, said,
+    distrusts, federate, said,
 };
-use wires_greeting::{Answer, CoordinatorState, FederateState};
+use wires_greeting::CoordinatorState;
 
 /// What somebody without the secret sends as a proof.
 #[derive(Clone, Copy)]
@@ -254,94 +254,4 @@ fn each_changed_byte_is_seen(rt: HostRuntime) {
         seen_places(true, Message::Proof, 32),
     ];
     assert_eq!(rt; seen, [Some(74), Some(65), Some(32), Some(32)]);
-}
-
-/// A greeting that is answered neither by going on nor by that the run is finished.
-struct Refusal {
-    federate: u16,
-    same_files: bool,
-    allowed: &'static [bool],
-    finished: bool,
-    answer: Answer,
-}
-
-/// Federate 3 may take part no more.
-const SOME: [bool; 4] = [true, true, true, false];
-
-/// All that could be answered at once is tested in this order: files, federate, allowed.
-const REFUSALS: [Refusal; 6] = [
-    Refusal {
-        federate: 3,
-        same_files: false,
-        allowed: &ALL,
-        finished: false,
-        answer: Answer::OtherFiles,
-    },
-    Refusal {
-        federate: 9,
-        same_files: false,
-        allowed: &ALL,
-        finished: true,
-        answer: Answer::OtherFiles,
-    },
-    Refusal {
-        federate: 4,
-        same_files: true,
-        allowed: &ALL,
-        finished: false,
-        answer: Answer::NoSuchFederate,
-    },
-    Refusal {
-        federate: 65535,
-        same_files: true,
-        allowed: &ALL,
-        finished: true,
-        answer: Answer::NoSuchFederate,
-    },
-    Refusal {
-        federate: 0,
-        same_files: true,
-        allowed: &[],
-        finished: false,
-        answer: Answer::NoSuchFederate,
-    },
-    Refusal {
-        federate: 3,
-        same_files: true,
-        allowed: &SOME,
-        finished: false,
-        answer: Answer::NotAllowed,
-    },
-];
-
-// What the coordinator answers, if the federate believes that and sends nothing.
-fn answered(refusal: &Refusal) -> Option<Answer> {
-    let files = if refusal.same_files { files() } else { [1; 32] };
-    let mut federate = federate_with(SECRET, refusal.federate, files, FEDERATE_RANDOM)?;
-    let challenge = coordinator()?.greeted(
-        &federate.message(),
-        &COORDINATOR_RANDOM,
-        refusal.allowed,
-        refusal.finished,
-    )?;
-    let sent = federate.challenged(&challenge);
-    match federate.state() {
-        FederateState::Refused(answer) if sent.is_none() => Some(answer),
-        _ => None,
-    }
-}
-
-// The place of the first that is answered otherwise.
-fn first_wrong_answer() -> Option<usize> {
-    for (place, refusal) in REFUSALS.iter().enumerate() {
-        if answered(refusal) != Some(refusal.answer) {
-            return Some(place);
-        }
-    }
-    None
-}
-
-#[test]
-fn what_is_refused_is_answered(rt: HostRuntime) {
-    assert_eq!(rt; first_wrong_answer(), None);
 }

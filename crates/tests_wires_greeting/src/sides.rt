@@ -30,19 +30,14 @@ pub fn files() -> [u8; 32] {
 }
 
 pub fn federate(random: [u8; 32]) -> Option<FederateSide> {
-    federate_with(SECRET, 3, files(), random)
+    federate_with(SECRET, random)
 }
 
-pub fn federate_with(
-    secret: &[u8],
-    federate: u16,
-    files: [u8; 32],
-    random: [u8; 32],
-) -> Option<FederateSide> {
+fn federate_with(secret: &[u8], random: [u8; 32]) -> Option<FederateSide> {
     let key = Key::of_secret(secret).ok()?;
     let greeting = Greeting {
-        federate,
-        files,
+        federate: 3,
+        files: files(),
         random,
     };
     Some(FederateSide::new(key, greeting))
@@ -75,7 +70,7 @@ pub fn said(finished: bool) -> Option<Messages> {
 
 /// Whether the federate of these random bytes doesn't go on by this message, as it isn't proved by its secret.
 pub fn distrusts(secret: &[u8], random: [u8; 32], message: &[u8; CHALLENGE_SIZE]) -> Option<bool> {
-    let mut federate = federate_with(secret, 3, files(), random)?;
+    let mut federate = federate_with(secret, random)?;
     let sent = federate.challenged(message);
     Some(sent.is_none() && matches!(federate.state(), FederateState::NotProved))
 }

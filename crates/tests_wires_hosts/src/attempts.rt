@@ -6,7 +6,9 @@ use crate::process::{Meeting, Process, failed, is_told, meet, met};
 use crate::simulated::{Counting, EndsAt, Meanwhile, Nothing, Simulated, attempted_until};
 use std::io::Read;
 use std::net::{Net, TcpListener, TcpStream};
+use std::sync::Wait;
 use std::time::Duration;
+use wires_hosts::attempts::Attempts;
 use wires_hosts::{DialFault, FederateHost, HostDial, Unreached};
 use wires_transports::{Dial, Transport};
 
@@ -91,6 +93,22 @@ fn keeps_the_pauses_between_attempts_that_fail(rt: HostRuntime) {
         0, 10, 30, 70, 150, 310, 630, 1270, 2270, 3270, 3270, 3280, 3300,
     ];
     assert_eq!(rt; attempted_at(&rt), Some(times));
+}
+
+// How many attempts came to the same: one to nobody, one to no answer, another one to nobody; and another one behind a
+// connection.
+fn counted<R: Wait>(rt: &R) -> [u64; 4] {
+    let attempts = Attempts::new();
+    let first = attempts.fail(rt, NOBODY);
+    let other = attempts.fail(rt, DialFault::NoAnswer);
+    let second = attempts.fail(rt, NOBODY);
+    attempts.succeed(rt);
+    [first, other, second, attempts.fail(rt, NOBODY)]
+}
+
+#[test]
+fn counts_attempts_by_reason_until_one_comes_to_a_connection(rt: HostRuntime) {
+    assert_eq!(rt; counted(&rt), [1, 1, 2, 1]);
 }
 
 // Whether no attempt is made once the run is to end.

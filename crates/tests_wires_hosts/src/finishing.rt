@@ -105,21 +105,29 @@ fn tells_each_federate_though_a_stranger_greets_as_it(rt: HostRuntime) {
     assert_eq!(rt; told, Some([true; 4]));
 }
 
-// Federate 0 is answered and doesn't prove that it heard so. Whether the coordinator closes once its patience is over.
+// Federate 0 is answered and doesn't prove that it heard so, and federate 1 hears it. Whether the coordinator closes
+// once its patience is over, and whoever watches is told of the one, then of the other two, and of nothing more.
 fn is_closed_unproved<R: Host + Net<Stream = TcpStream, Listener = TcpListener>>(
     rt: &R,
     entrance: &Entrance<'_>,
 ) -> Option<bool> {
+    let told = &entrance.coordinator.told;
     let no_more = gets_no_more(rt, entrance);
     let stream = answered(rt, entrance, 0)?;
-    Some(no_more && is_closed(&stream, 0))
+    let host = host_of(entrance.address, 1)?;
+    let process = entrance.process;
+    let hears = process.is_refused(rt, entrance.alloc, host, DialFault::Finished, true);
+    let are_told = is_told(rt, told, Happening::Told(1))
+        && is_told(rt, told, Happening::Untold(0))
+        && is_told(rt, told, Happening::Untold(2));
+    Some(no_more && hears && are_told && is_closed(&stream, 0) && told.try_recv(rt).is_err())
 }
 
 #[test]
-fn ends_once_its_patience_is_over_where_a_federate_was_not_told(rt: HostRuntime) {
+fn ends_once_its_patience_is_over_and_tells_who_was_not_told(rt: HostRuntime) {
     assert_eq!(rt;
         told_behind(&rt, 2000, is_closed_unproved),
-        Some([false; 4])
+        Some([false, true, false, false])
     );
 }
 

@@ -1,9 +1,7 @@
 //! Where random bytes come from, on both sides of a greeting.
-use crate::entrance::{
-    Entrance, Host, challenged, greeted, greeting_at, is_closed, is_empty, visited,
-};
+use crate::entrance::{Entrance, Host, challenged, greeted, is_closed, is_empty, visited};
 use crate::process::{Meeting, met};
-use crate::simulated::{Broken, Counting, Nothing, Simulated, attempted_until, counted};
+use crate::simulated::{Broken, Counting, Nothing, Simulated, counted};
 use std::net::{Net, TcpListener, TcpStream};
 use wires_hosts::DialFault;
 
@@ -22,23 +20,6 @@ fn is_silent<R: Host + Net<Stream = TcpStream, Listener = TcpListener>>(
 #[test]
 fn does_not_greet_without_random_bytes(rt: HostRuntime) {
     assert_eq!(rt; met(&rt, is_silent), Some(true));
-}
-
-// The random bytes of a federate's greeting, which nobody answers. That time is over at once.
-fn greeted_with<R: Host + Net<Stream = TcpStream, Listener = TcpListener>>(
-    rt: &R,
-    meeting: &Meeting,
-) -> Option<[u8; 32]> {
-    attempted_until(rt, meeting, DialFault::NoAnswer, false, Nothing)?;
-    let (_, greeting) = greeting_at(&meeting.listener)?;
-    let mut random = [0; 32];
-    random.copy_from_slice(&greeting[42..]);
-    Some(random)
-}
-
-#[test]
-fn greets_with_all_bytes_that_its_source_gave(rt: HostRuntime) {
-    assert_eq!(rt; met(&rt, greeted_with), Some(counted(0)));
 }
 
 // Whether a coordinator whose source fails closes a connection without a word.

@@ -1,8 +1,9 @@
 //! What whoever watches a node is told of a run that stands still or goes on, of who is missing, and of where federates
 //! stand. No time goes by: the clock is simulated.
-use crate::entrance::Machine;
-use crate::process::{Process, is_told};
+use crate::entrance::{Host, Machine};
+use crate::process::{Process, is_told, told_by_now};
 use crate::simulated::{Broken, Meanwhile, Nothing, Simulated};
+use crossbeam_channel::Receiver;
 use std::alloc::Global;
 use std::sync::Wait;
 use std::sync::atomic::{AtomicU64, Ordering};
@@ -102,9 +103,8 @@ struct Run<'a> {
     end_ms: u64,
 }
 
-// Whether it is told of such a run that just this happens, in this order.
-fn are_told<R: Machine>(rt: &R, run: &Run<'_>, told: &[Happening]) -> Option<bool> {
-    let process = Process::of(rt.alloc(), run.federates)?;
+// Has whoever watches this process told of such a run.
+fn run_through<R: Machine>(rt: &R, process: &Process, run: &Run<'_>) -> Option<()> {
     if run.are_connected {
         for federate in 0..run.federates {
             process
@@ -114,7 +114,7 @@ fn are_told<R: Machine>(rt: &R, run: &Run<'_>, told: &[Happening]) -> Option<boo
     }
     let seconds = AtomicU64::new(0);
     let course = Course {
-        process: &process,
+        process,
         hearings: run.hearings,
         completions: run.completions,
         end_ms: run.end_ms,
@@ -130,6 +130,13 @@ fn are_told<R: Machine>(rt: &R, run: &Run<'_>, told: &[Happening]) -> Option<boo
         },
     };
     let _ = watching.work(&machine, rt.alloc());
+    Some(())
+}
+
+// Whether it is told of such a run that just this happens, in this order.
+fn are_told<R: Machine>(rt: &R, run: &Run<'_>, told: &[Happening]) -> Option<bool> {
+    let process = Process::of(rt.alloc(), run.federates)?;
+    run_through(rt, &process, run)?;
     for what in told {
         if !is_told(rt, &process.told, *what) {
             return Some(false);
@@ -248,6 +255,59 @@ fn is_missing_told<R: Machine>(rt: &R) -> Option<bool> {
 #[test]
 fn tells_who_is_missing_though_others_are_heard(rt: HostRuntime) {
     assert_eq!(rt; is_missing_told(&rt), Some(true));
+}
+
+// Each of 20 federates is heard after a second, and two of them after 7 s.
+fn hearings_of_many(alloc: Global) -> Option<Vec<(u16, u64, u64)>> {
+    let mut hearings = Vec::new(alloc);
+    for federate in 0..20 {
+        hearings.push((federate, 1000, 1000)).ok()?;
+    }
+    hearings.push((3, 7000, 7000)).ok()?;
+    hearings.push((18, 7000, 7000)).ok()?;
+    Some(hearings)
+}
+
+// How many federates are told to be missing by their names, of how many more that is told, and how many are told to be
+// heard again, of which the last has this number.
+fn counts_told<R: Host>(rt: &R, told: &Receiver<Told>) -> [usize; 4] {
+    let mut counts: [usize; 4] = [0; 4];
+    for _ in 0..100 {
+        match told_by_now(rt, told) {
+            Some(Happening::Missing(_)) => counts[0] = counts[0].saturating_add(1),
+            Some(Happening::Others(more)) => counts[1] = counts[1].saturating_add(more),
+            Some(Happening::HeardAgain(federate, _)) => {
+                counts[2] = counts[2].saturating_add(1);
+                counts[3] = usize::from(federate);
+            }
+            Some(_) => {}
+            None => break,
+        }
+    }
+    counts
+}
+
+// The same of a coordinator of these, which aren't connected.
+fn counts_of_many<R: Machine>(rt: &R) -> Option<[usize; 4]> {
+    let hearings = hearings_of_many(rt.alloc())?;
+    let run = Run {
+        federates: 20,
+        are_connected: false,
+        is_federate: false,
+        unacked: 0,
+        patience_ms: None,
+        hearings: &hearings,
+        completions: &[],
+        end_ms: 8000,
+    };
+    let process = Process::of(rt.alloc(), run.federates)?;
+    run_through(rt, &process, &run)?;
+    Some(counts_told(rt, &process.told))
+}
+
+#[test]
+fn tells_of_16_who_are_missing_and_who_of_them_is_heard_again(rt: HostRuntime) {
+    assert_eq!(rt; counts_of_many(&rt), Some([16, 4, 1, 3]));
 }
 
 // A coordinator of three federates that are connected and heard of each second, and complete a tag each second but from

@@ -106,25 +106,28 @@ fn all_followed_at_src<R: Machine>(
     all_followed(rt, rt.alloc(), &shared, granted, turns)
 }
 
-// Each of the first three turns announces a tag and makes its row; the next one announces that none is left, and the
-// fifth does nothing. After the acknowledgement one more does nothing. Of a federation with 1,001 ticks no more turns
-// are made at once.
+/// How many turns are left to src of the counter that is granted all, and what follows. Each of the first three
+/// announces a tag and makes its row; the next one announces that none is left, and the fifth does nothing. After the
+/// acknowledgement one more does nothing.
+const COUNTED: &[(u32, AllFollowed)] = &[
+    (0, ((0, true), (0, false), 2)),
+    (3, ((3, true), (0, true), 8)),
+    (5, ((5, true), (0, true), 12)),
+    (6, ((5, false), (1, true), 14)),
+    (100, ((5, false), (1, false), 14)),
+];
+
+// Of a federation with 1,001 ticks no more turns are made at once.
 #[test]
 fn makes_turns_until_one_does_nothing(rt: HostRuntime) {
-    let cases = [
-        (COUNTER, 20, 0, ((0, true), (0, false), 2)),
-        (COUNTER, 20, 1, ((1, true), (0, true), 4)),
-        (COUNTER, 20, 3, ((3, true), (0, true), 8)),
-        (COUNTER, 20, 5, ((5, true), (0, true), 12)),
-        (COUNTER, 20, 6, ((5, false), (1, true), 14)),
-        (COUNTER, 20, 100, ((5, false), (1, false), 14)),
-        (TICKS, 1000, 1000, ((256, true), (256, true), 1026)),
-    ];
-    for (text, granted, turns, expected) in cases {
+    for (turns, expected) in COUNTED {
         assert_eq!(rt;
-            all_followed_at_src(&rt, text, at(granted), turns),
-            Some(expected),
-            "{turns}"
+            all_followed_at_src(&rt, COUNTER, at(20), *turns),
+            Some(*expected)
         );
     }
+    assert_eq!(rt;
+        all_followed_at_src(&rt, TICKS, at(1000), 1000),
+        Some(((256, true), (256, true), 1026))
+    );
 }

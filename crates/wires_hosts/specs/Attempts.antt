@@ -1,16 +1,15 @@
 -- How many attempts to connect come to the same, and how many connections in a row stand for a moment.
-use Rattle.std.specs.Prelude.{ℕ, ◌+◌, ◌-◌, ◌^◌, min, nat_lt, nat_le, if◌then◌else◌, Bool, true, Option, None, Some}
+use Rattle.std.specs.Prelude.{ℕ, ◌+◌, ◌-◌, ◌^◌, min, nat_lt, nat_le, if◌then◌else◌, Bool, true}
 use Rattle.wires_hosts.specs.declared.times.TheConstants.{QUICK_MS}
 
--- how many came to something by now, with the last, where so many had before it, if that is counted
-abbrev pub count_after : Option ℕ → ℕ
-count_after None = 1
-count_after (Some count) = min (2 ^ 64 - 1) (count + 1)
+-- with one more, as far as a number of 64 bits goes
+abbrev pub with_one : ℕ → ℕ
+with_one count = min (2 ^ 64 - 1) (count + 1)
 
 -- how many connections in a row stood for a moment alone, where the last stood for so many ms, and so many did before
 -- it: one that stood longer begins a row
 abbrev pub quick_after : (stood_ms count : ℕ) → ℕ
-quick_after stood_ms count = if nat_lt stood_ms QUICK_MS then min (2 ^ 64 - 1) (count + 1) else 1
+quick_after stood_ms count = if nat_lt stood_ms QUICK_MS then with_one count else 1
 
 -- whether two processes of one federate may run, where a connection takes another one's place: they come from two
 -- machines, or it is at least the fourth of a row

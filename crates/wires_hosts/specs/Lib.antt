@@ -24,3 +24,5 @@ pub mod Attendance
 pub mod Awaited
 -- For whom a run may wait, how long it has waited for whom, and how far it is.
 pub mod Standing
+-- What a coordinator saw of its federates, or a federate of itself.
+pub mod Overview

@@ -1,8 +1,15 @@
 -- For whom a run may wait, how long it has waited for whom, and how far it is.
-use Rattle.std.specs.Prelude.{ℕ, ◌/◌, min, Bool, true, false, nat_lt, nat_le, if◌then◌else◌, Option, None, Some}
+use Rattle.std.specs.Prelude.{◌≡◌, ℕ, ◌/◌, min, Bool, true, false, nat_lt, nat_le, if◌then◌else◌, Option, None, Some}
+use Rattle.std.specs.Prelude.{IfSome, List, All, Contains}
 use Rattle.tag.specs.LogicalTime.{LogicalTime, is_before}
 use Rattle.wires_hosts.specs.declared.standing.Standing.{Standing}
 use Rattle.wires_hosts.specs.declared.times.TheConstants.{MOVING_MS, STILL_MS}
+
+-- the least of the last tags that federates have completed, of those that have completed one; none where none has
+abbrev pub IsLeast : (completed : List (Option LogicalTime)) → Option LogicalTime → Type 0
+IsLeast completed None = All (λ last. last ≡ None) completed
+IsLeast completed (Some least) =
+    Contains completed (Some least) × All (λ last. IfSome last (λ tag. is_before tag least ≡ false)) completed
 
 -- the lesser of two tags, where there are two
 abbrev pub least_of : (least completed : Option LogicalTime) → Option LogicalTime
@@ -23,7 +30,7 @@ abbrev pub may_be_awaited : Standing → (holds_back : Bool) → Bool
 may_be_awaited standing holds_back =
     if standing.is_connected then (if nat_lt 0 standing.reached.unacked then true else holds_back) else true
 
--- for how many ms nothing was heard of a federate, or where nothing ever was since when it has no connection
+-- for how many ms nothing was heard of a federate, or where nothing ever was for how many it has a connection or none
 abbrev pub unheard_ms_by : Option ℕ → (lasting_ms : ℕ) → ℕ
 unheard_ms_by None lasting_ms = lasting_ms
 unheard_ms_by (Some quiet_ms) lasting_ms = quiet_ms

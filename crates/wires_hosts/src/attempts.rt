@@ -1,7 +1,8 @@
 //! Which of many attempts to connect are told that come to nothing or to a moment's connection, at either side.
-ghost use Rattle.std.specs.Prelude.{◌≡◌, slice_get};
+ghost use Rattle.std.specs.Prelude.{◌≡◌, Some, slice_index, slice_set};
 ghost use Rattle.std.specs.Int.{is_power_of_two};
 ghost use Rattle.wires_hosts.specs.Attempts as definition;
+ghost use Rattle.wires_hosts.specs.DialFault.{note};
 
 use crate::dial_fault::{DialFault, NOTES};
 use crate::happening::NotLetIn;
@@ -27,9 +28,8 @@ impl Attempts {
 
     /// One more came to nothing, for this. How many did by now, for the same.
     pub fn fail<R: Wait>(&self, rt: &R, fault: DialFault) -> u64 {
-        let note = usize::try_from(DialFault::note(Some(fault))).unwrap_or(0);
         let mut counts = self.counts.lock(rt);
-        counted(&mut *counts, note)
+        counted(&mut *counts, fault)
     }
 
     /// One came to a connection.
@@ -49,9 +49,9 @@ pub struct Refused {
 /// Rows of connections that came to a coordinator and weren't let in: of each of the last few machines and reasons how
 /// many were.
 #[derive(Drop)]
-pub(crate) struct Refusals {
+pub struct Refusals {
     rows: [Option<Row>; MOST_ROWS],
-    // The place of the row that is given up next, where there is no room.
+    // The place of the row that is given up next, where none is free.
     next: usize,
 }
 
@@ -67,15 +67,15 @@ const MOST_ROWS: usize = 16;
 
 impl Refusals {
     /// None was refused.
-    pub(crate) fn new() -> Refusals {
+    pub fn new() -> Refusals {
         Refusals {
             rows: [None; MOST_ROWS],
             next: 0,
         }
     }
 
-    /// One more wasn't let in. How many weren't in a row by now, as this one.
-    pub(crate) fn refuse(&mut self, refused: Refused) -> u64 {
+    /// One more wasn't let in. How many weren't by now, from this machine and for this reason.
+    pub fn refuse(&mut self, refused: Refused) -> u64 {
         let mut count = 0;
         for place in self.rows.iter_mut() {
             if let Some(row) = *place {
@@ -88,15 +88,15 @@ impl Refusals {
         if count > 0 {
             return count;
         }
-        if let Some(place) = self.rows.get_mut(self.next) {
+        let place = self.place_of_new();
+        if let Some(place) = self.rows.get_mut(place) {
             *place = Some(Row { refused, count: 1 });
         }
-        self.next = self.next.saturating_add(1) % MOST_ROWS;
         1
     }
 
-    /// One was let in from this machine: its rows are over.
-    pub(crate) fn let_in(&mut self, from: IpAddr) {
+    /// One was let in from this machine: its rows are over, and no other one's.
+    pub fn let_in(&mut self, from: IpAddr) {
         for place in self.rows.iter_mut() {
             let is_over = match *place {
                 Some(row) => row.refused.from == from,
@@ -107,9 +107,19 @@ impl Refusals {
             }
         }
     }
+
+    // Where a new row goes: to the first place that is free, or to that of the row that is given up.
+    fn place_of_new(&mut self) -> usize {
+        if let Some(free) = self.rows.iter().position(|row| row.is_none()) {
+            return free;
+        }
+        let given_up = self.next;
+        self.next = given_up.saturating_add(1) % MOST_ROWS;
+        given_up
+    }
 }
 
-/// Whether it is told that so many attempts in a row came to nothing: of the first, the second, the fourth, the eighth
+/// Whether it is told that so many attempts came to nothing: of the first, the second, the fourth, the eighth
 /// and so on, so that whoever is away for a day has few lines to read.
 pub fn is_told(count: u64) -> bool
     ensures { result ≡ is_power_of_two count }
@@ -117,17 +127,15 @@ pub fn is_told(count: u64) -> bool
     count.is_power_of_two()
 }
 
-// One more attempt came to what has this number. How many did by now, of which it is counted how many had.
-fn counted(counts: &mut [u64; NOTES], note: usize) -> u64
-    ensures { result ≡ definition.count_after (slice_get counts.old note) }
+// One more attempt came to nothing, for this. How many did by now, for the same.
+fn counted(counts: &mut [u64; NOTES], fault: DialFault) -> u64
+    ensures one_more { result ≡ definition.with_one (slice_index counts.old (note (Some fault))) }
+    ensures stored { counts.new ≡ slice_set counts.old (note (Some fault)) result }
 {
-    match counts.get_mut(note) {
-        Some(count) => {
-            *count = count.saturating_add(1);
-            *count
-        }
-        None => 1,
-    }
+    let place = DialFault::note(Some(fault)) as usize;
+    let count = counts[place].saturating_add(1);
+    counts[place] = count;
+    count
 }
 
 /// How many connections in a row stood for a moment alone, where the last stood for so many ms and so many did before

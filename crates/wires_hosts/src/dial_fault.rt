@@ -1,4 +1,4 @@
-ghost use Rattle.std.specs.Prelude.{◌≡◌, None, Some};
+ghost use Rattle.std.specs.Prelude.{◌≡◌, ◌<◌, None, Some};
 ghost use Rattle.wires_hosts.specs.DialFault as definition;
 
 use crate::unreached::Unreached;
@@ -76,7 +76,8 @@ impl DialFault {
 
     /// The number by which a fault, or none, is noted.
     pub(crate) fn note(fault: Option<DialFault>) -> u64
-        ensures { result ≡ definition.note fault }
+        ensures number { result ≡ definition.note fault }
+        ensures few { result < NOTES }
     {
         match fault {
             None => 0,

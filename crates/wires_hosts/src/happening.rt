@@ -57,7 +57,7 @@ pub enum Happening {
     GoesOn(u64),
     /// So a federate stands as the run is given up.
     Stands(Standing),
-    /// It is likewise with so many federates more, of which nothing is told.
+    /// So many federates more, of which the same isn't told.
     Others(usize),
     /// The run is finished: the coordinator is, or a federate has heard so.
     Finished,

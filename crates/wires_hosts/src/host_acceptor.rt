@@ -6,6 +6,7 @@ use crate::draw::drawn;
 use crate::happening::{Happening, Loss, Replaced};
 use crate::heard::Heard;
 use crate::heard_transport::HeardTransport;
+use crate::millis::millis_of;
 use crate::pending_host::{HostState, PendingHost, Terms};
 use crate::times::LONGEST_PATIENCE_MS;
 use crossbeam_channel::Sender;
@@ -225,7 +226,7 @@ fn tell_all<'a, R: Wait + Clock, S: RandomSource, B: Barrier>(
     connected: &mut Connected<'a, B>,
 ) {
     let mut pending = pending;
-    let patience_ms = millis(entrance.patience);
+    let patience_ms = millis_of(entrance.patience).min(LONGEST_PATIENCE_MS);
     let patience = Deadline::after(rt, patience_ms);
     if patience_ms > 0 {
         let told = hearing.heard.told();
@@ -257,15 +258,6 @@ fn tell_untold<R: Wait + Clock>(rt: &R, heard: &Heard) {
             heard.tell(rt, rt, Happening::Untold(federate));
         }
     }
-}
-
-// A time in ms, a year at most.
-fn millis(duration: Duration) -> u64 {
-    duration
-        .as_secs()
-        .saturating_mul(1000)
-        .saturating_add(u64::from(duration.subsec_millis()))
-        .min(LONGEST_PATIENCE_MS)
 }
 
 // Takes connections that came to those that are pending, and gives some of them up where these are too many; whether

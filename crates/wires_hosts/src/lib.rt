@@ -12,9 +12,9 @@
 //! or where the `Barrier` refused it: then nothing was sent. Nothing is said of when a call returns. Keys are made by
 //! `wires_greeting::Key` alone. Whoever watches is told what happens (`happening`), through a channel for which nobody
 //! waits (`teller`): why a connection isn't let in is `specs/NotLetIn`, how many attempts came to the same
-//! `specs/Attempts`, which connection has ended `specs/Attendance`, who is awaited `specs/Awaited` and `specs/Standing`,
-//! and when it is told that nobody is heard `specs/Silence`. Whoever measures a node is told its moments the same way
-//! (`moment`).
+//! `specs/Attempts`, which connection has ended `specs/Attendance`, who is awaited `specs/Awaited`, for whom a run waits
+//! and how far it is `specs/Standing`, and when it is told that nobody is heard `specs/Silence`. Whoever measures a node
+//! is told its moments the same way (`moment`).
 //!
 //! Begin with `heard` and `barrier`, which one process's threads share, then `host_dial` and `host_acceptor`.
 #![tactic(auto)]
@@ -37,6 +37,7 @@ mod incoming;
 pub mod last_connection;
 pub mod listening;
 pub mod look;
+pub mod millis;
 pub mod moment;
 mod next;
 mod overview;

@@ -1,4 +1,9 @@
 //! What whoever watches a node is told of how its run goes: how far it is, that it stands still, and for whom it waits.
+ghost use Rattle.std.specs.Prelude.{◌≡◌};
+ghost use Rattle.wires_hosts.specs.Awaited.{awaited_of};
+ghost use Rattle.wires_hosts.specs.Overview.{are_there, completed_by};
+ghost use Rattle.wires_hosts.specs.Standing.{IsLeast};
+
 use crate::awaited::Awaited;
 use crate::happening::Happening;
 use crate::heard::Heard;
@@ -51,6 +56,8 @@ struct Seen {
     quiet_ms: Option<u64>,
     // For how long it had been missing when that was told last; 0 where it wasn't.
     told_ms: u64,
+    // Whether it had its name when that was told, then or before, and wasn't only one of so many more.
+    is_named: bool,
 }
 
 impl Seen {
@@ -60,6 +67,7 @@ impl Seen {
             awaited_since_ms: None,
             quiet_ms: None,
             told_ms: 0,
+            is_named: false,
         }
     }
 
@@ -73,8 +81,9 @@ impl Seen {
         };
     }
 
-    // What there is to tell of it at this time, where it stands there: that it is missing, or was heard again.
-    fn go_on(&mut self, standing: &Standing, now: u64) -> Option<Happening> {
+    // What there is to tell of it at this time, where it stands there: that it is missing, by its name where there is room
+    // for that; or that it was heard again, where it was told by its name that it was missing.
+    fn go_on(&mut self, standing: &Standing, now: u64, has_room: bool) -> Option<Happening> {
         let before = self.quiet_ms;
         self.quiet_ms = standing.quiet_ms;
         let missing = match self.awaited_since_ms {
@@ -82,14 +91,21 @@ impl Seen {
             None => 0,
         };
         let told = self.told_ms;
+        let was_named = self.is_named;
         match told_of_silence(told, missing) {
             Some(SilenceTold::Lasts) => {
                 self.told_ms = missing;
+                self.is_named = was_named || has_room;
                 Some(Happening::Missing(*standing))
             }
             Some(SilenceTold::IsOver) => {
                 self.told_ms = 0;
-                heard_again(standing, before, told)
+                self.is_named = false;
+                if was_named {
+                    heard_again(standing, before, told)
+                } else {
+                    None
+                }
             }
             None => None,
         }
@@ -197,7 +213,7 @@ impl<'a, L: Look> Overview<'a, L> {
     // Notes for whom the run may wait at this time, where it stands still or doesn't. Who holds it back counts where nobody
     // else does: most of them wait themselves.
     fn note_awaited(&mut self, now: u64, stands: bool) {
-        let least = self.least();
+        let least = least_in(&self.seen);
         let is_held = stands && !self.is_anyone_away(now);
         for federate in 0..self.seen.len() {
             let is_least = self.is_least(federate, &least);
@@ -220,15 +236,6 @@ impl<'a, L: Look> Overview<'a, L> {
         false
     }
 
-    // The least of the last tags that federates have completed, of those that have completed one.
-    fn least(&self) -> Option<FiniteTag> {
-        let mut least = None;
-        for seen in self.seen.iter() {
-            least = least_of(least, seen.reached.completed);
-        }
-        least
-    }
-
     // Whether a federate may hold the run back, in which this is the least tag that was completed.
     fn is_least(&self, federate: usize, least: &Option<FiniteTag>) -> bool {
         match self.seen.get(federate) {
@@ -237,31 +244,23 @@ impl<'a, L: Look> Overview<'a, L> {
         }
     }
 
-    // For whom the run may wait.
-    fn awaited(&self) -> Awaited {
-        let mut awaited = Awaited::nobody();
-        for seen in self.seen.iter() {
-            awaited = awaited.with(seen.awaited_since_ms.is_none());
-        }
-        awaited
-    }
-
     // At a coordinator: tells which federates are missing, and which were heard again.
     fn tell_missing<R: Wait + Clock>(&mut self, rt: &R, now: u64) {
         let mut told = 0_usize;
         let mut others = 0_usize;
         for federate in 0..self.seen.len() {
+            let has_room = told < MOST_TOLD;
             let standing = self.seen_standing(federate, now);
             let what = match self.seen.get_mut(federate) {
-                Some(seen) => seen.go_on(&standing, now),
+                Some(seen) => seen.go_on(&standing, now, has_room),
                 None => None,
             };
             match what {
-                Some(Happening::Missing(_)) if told >= MOST_TOLD => {
-                    others = others.saturating_add(1);
-                }
+                Some(Happening::Missing(_)) if !has_room => others = others.saturating_add(1),
                 Some(what) => {
-                    told = told.saturating_add(1);
+                    if matches!(what, Happening::Missing(_)) {
+                        told = told.saturating_add(1);
+                    }
                     self.heard.tell(rt, rt, what);
                 }
                 None => {}
@@ -283,7 +282,7 @@ impl<'a, L: Look> Overview<'a, L> {
                 self.note_awaited(now, true);
                 self.still_told_ms = quiet_ms;
                 self.stands = true;
-                let still = Happening::Still(quiet_ms, self.awaited());
+                let still = Happening::Still(quiet_ms, awaited_in(&self.seen));
                 self.heard.tell(rt, rt, still);
             }
             Some(SilenceTold::IsOver) => self.still_told_ms = 0,
@@ -348,7 +347,7 @@ impl<'a, L: Look> Overview<'a, L> {
             return;
         };
         self.is_due = false;
-        let completed = self.least();
+        let completed = least_in(&self.seen);
         let is_known = if goes_on {
             completed == self.told
         } else {
@@ -394,7 +393,7 @@ impl<'a, L: Look> Overview<'a, L> {
             self.heard.connected()
         } else {
             self.note_awaited(now, true);
-            self.awaited()
+            awaited_in(&self.seen)
         }
     }
 
@@ -453,4 +452,26 @@ impl<'a, L: Look> Overview<'a, L> {
             reached,
         }
     }
+}
+
+// The least of the last tags that federates have completed, of those that have completed one.
+fn least_in(seen: &[Seen]) -> Option<FiniteTag>
+    ensures { IsLeast (completed_by seen.now) result }
+{
+    let mut least = None;
+    for of in seen {
+        least = least_of(least, of.reached.completed);
+    }
+    least
+}
+
+// For whom the run may wait.
+fn awaited_in(seen: &[Seen]) -> Awaited
+    ensures { result ≡ awaited_of (are_there seen.now) }
+{
+    let mut awaited = Awaited::nobody();
+    for of in seen {
+        awaited = awaited.with(of.awaited_since_ms.is_none());
+    }
+    awaited
 }

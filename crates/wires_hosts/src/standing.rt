@@ -93,7 +93,7 @@ pub fn may_be_awaited(standing: &Standing, holds_back: bool) -> bool
     !standing.is_connected || standing.reached.unacked > 0 || holds_back
 }
 
-/// For how many ms nothing was heard of a federate; where nothing ever was, since when it has no connection.
+/// For how many ms nothing was heard of a federate; where nothing ever was, for how many it has a connection or none.
 pub fn unheard_ms(standing: &Standing) -> u64
     ensures { result ≡ definition.unheard_ms standing.now }
 {

@@ -1,5 +1,6 @@
 //! How a node tells whoever watches it what happens.
 use crate::happening::Happening;
+use crate::millis::millis_of;
 use crate::moment::{Measured, Moment};
 use crate::standing::Standing;
 use crate::times::WIPE_MS;
@@ -223,18 +224,8 @@ impl Teller {
     /// So many ms since the node began; 0 where nobody watches or measures.
     pub(crate) fn millis<C: Clock>(&self, clock: &C) -> u64 {
         match self.start {
-            Some(start) => start.elapsed(clock).map_or(
-                0,
-                |elapsed| millis_of(elapsed.as_secs(), elapsed.subsec_millis()),
-            ),
+            Some(start) => start.elapsed(clock).map_or(0, |elapsed| millis_of(elapsed)),
             None => 0,
         }
     }
-}
-
-// So many seconds and ms, in ms.
-fn millis_of(seconds: u64, millis: u32) -> u64 {
-    seconds
-        .saturating_mul(1000)
-        .saturating_add(u64::from(millis))
 }

@@ -1,6 +1,6 @@
-ghost use Rattle.std.specs.Prelude.{◌≡◌};
+ghost use Rattle.std.specs.Prelude.{◌≡◌, ◌≢◌};
 ghost use Rattle.std.specs.IoError.{error_kind};
-ghost use Rattle.wires_hosts.specs.declared.unreached.Unreached.TheVariants.{Refused, TimeOver, NoWay};
+ghost use Rattle.wires_hosts.specs.declared.unreached.Unreached.TheVariants.{Refused, TimeOver, NoWay, Other};
 
 use std::io;
 use std::io::ErrorKind;
@@ -36,16 +36,15 @@ impl Unreached {
         ensures time_over { error_kind error.now ≡ ErrorKind.TimedOut → result ≡ TimeOver }
         ensures no_host { error_kind error.now ≡ ErrorKind.HostUnreachable → result ≡ NoWay }
         ensures no_network { error_kind error.now ≡ ErrorKind.NetworkUnreachable → result ≡ NoWay }
+        ensures other { error_kind error.now ≢ ErrorKind.ConnectionRefused → error_kind error.now ≢ ErrorKind.TimedOut
+            → error_kind error.now ≢ ErrorKind.HostUnreachable → error_kind error.now ≢ ErrorKind.NetworkUnreachable
+            → result ≡ Other }
     {
-        let kind = error.kind();
-        if kind == ErrorKind::ConnectionRefused {
-            Unreached::Refused
-        } else if kind == ErrorKind::TimedOut {
-            Unreached::TimeOver
-        } else if kind == ErrorKind::HostUnreachable || kind == ErrorKind::NetworkUnreachable {
-            Unreached::NoWay
-        } else {
-            Unreached::Other
+        match error.kind() {
+            ErrorKind::ConnectionRefused => Unreached::Refused,
+            ErrorKind::TimedOut => Unreached::TimeOver,
+            ErrorKind::HostUnreachable | ErrorKind::NetworkUnreachable => Unreached::NoWay,
+            _ => Unreached::Other,
         }
     }
 }

@@ -7,6 +7,7 @@ use Rattle.wires_traffic.specs.declared.kind.FrameKind.{FrameKind}
 use Rattle.wires_traffic.specs.declared.kind.FrameKind.TheVariants.{Hello, Net, Ltc, Tag, Msg, Again, Ack, Refuse}
 use Rattle.wires_traffic.specs.Kinds.{kind_of, number_of, place_of}
 use Rattle.wires_traffic.specs.Sums.{count_of, kept, no_frames, with_one}
+use Rattle.wires_traffic.specs.Counter.{counts_of}
 
 -- whether a kind is another one
 abbrev same : FrameKind → FrameKind → Bool
@@ -113,3 +114,23 @@ counted_more kind before frames i frame made counts new within is made_is new_is
     let counted : kept (n + cond (same made kind) 1 0) ≡ kept (n + cond (test (get_or frames i frame)) 1 0) =
     ap (λ (k : FrameKind). kept (n + cond (same k kind) 1 0)) there in
     changed ∙ both_more (same made kind) (count_of kind counts) n so_far ∙ counted ∙ sym (ap kept (length-filter_more test frames i frame within))
+
+-- ---- counts by kind as one record
+
+abbrev of_eight : (hello net ltc tag msg again ack refuse : ℕ) → FrameCounts
+of_eight hello net ltc tag msg again ack refuse = record { hello = hello; net = net; ltc = ltc; tag = tag; msg = msg; again = again; ack = ack; refuse = refuse }
+
+-- equal number by number
+same_eight :
+    (a b c d e f g h p q r s t u v w : ℕ) → a ≡ p → b ≡ q → c ≡ r → d ≡ s → e ≡ t → f ≡ u → g ≡ v → h ≡ w →
+    of_eight a b c d e f g h ≡ of_eight p q r s t u v w
+same_eight a b c d e f g h p q r s t u v w ea eb ec ed ee ef eg eh = rw (ea, eb, ec, ed, ee, ef, eg, eh) refl
+
+pub counted_as :
+    (before : ℕ) (frames : List Frame) (counts : FrameCounts) → ((kind : FrameKind) → count_of kind counts ≡ kept (number_of kind before frames)) →
+    counts ≡ counts_of before frames
+counted_as before frames counts by =
+    same_eight counts.hello counts.net counts.ltc counts.tag counts.msg counts.again counts.ack counts.refuse
+    (kept (number_of Hello before frames)) (kept (number_of Net before frames)) (kept (number_of Ltc before frames)) (kept (number_of Tag before frames))
+    (kept (number_of Msg before frames)) (kept (number_of Again before frames)) (kept (number_of Ack before frames)) (kept (number_of Refuse before frames))
+    (by Hello) (by Net) (by Ltc) (by Tag) (by Msg) (by Again) (by Ack) (by Refuse)

@@ -1,6 +1,5 @@
-use Rattle.std.proofs.Common.{◌≡◌, [], take, sym, subst}
+use Rattle.std.proofs.Common.{◌≡◌, [], sym, subst}
 use Rattle.std.proofs.lemmas.List.{take_all}
-use Rattle.signal.specs.declared.frame.Frame.{Frame}
 use Rattle.wires_traffic.specs.Kinds.{number_of}
 use Rattle.wires_traffic.specs.Sums.{count_of, kept}
 use Rattle.wires_traffic.proofs.Counted.{none_counted, counted_more}
