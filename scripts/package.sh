@@ -28,12 +28,12 @@ fill() {
   install -D -m 0755 "$program" "$to/usr/bin/fedrun"
   cd "$to/usr"
   mkdir -p share/man/man1 share/bash-completion/completions share/zsh/vendor-completions \
-    share/fish/vendor_completions.d share/doc/lovuminash/examples
+    share/fish/vendor_completions.d share/doc/lovuminash
   "$program" man | gzip -9n >share/man/man1/fedrun.1.gz
   "$program" completions bash >share/bash-completion/completions/fedrun
   "$program" completions zsh >share/zsh/vendor-completions/_fedrun
   "$program" completions fish >share/fish/vendor_completions.d/fedrun.fish
-  in_git ls-files -z -- examples | xargs -0 -I '{}' install -m 0644 "$top/{}" share/doc/lovuminash/examples/
+  in_git ls-files -z -- examples | xargs -0 -I '{}' install -D -m 0644 "$top/{}" 'share/doc/lovuminash/{}'
   for name in LICENSE LICENSE.txt LICENSE.md COPYING; do
     [ ! -f "$top/$name" ] || install -m 0644 "$top/$name" share/doc/lovuminash/copyright
   done

@@ -42,6 +42,14 @@ pub fn tokens(alloc: Global, text: &[u8]) -> Result<Vec<Token<'_>>, AllocError> 
     let mut tokens = Vec::new(alloc);
     let mut line = 1usize;
     let mut rest = text;
+    if let Some(behind) = text.strip_prefix(MARK) {
+        tokens.push(Token {
+            kind: TokenKind::Plain,
+            line,
+            text: MARK,
+        })?;
+        rest = behind;
+    }
     for _ in 0..text.len() {
         let Some(kind) = kind_of(rest) else {
             break;
@@ -85,9 +93,6 @@ fn line_len(text: &[u8]) -> usize {
 }
 
 fn plain_len(text: &[u8]) -> usize {
-    if text.starts_with(MARK) {
-        return MARK.len();
-    }
     text.iter()
         .take_while(|c| !matches!(**c, b'"' | b'\'' | b'#' | b'\n' | b'[' | b'{' | b']' | b'}'))
         .count()

@@ -10,7 +10,7 @@ mod version;
 
 use crate::version::{COMMIT, PROOF};
 use arrayvec::ArrayVec;
-use crossbeam_channel::{Receiver, Sender};
+use crossbeam_channel::Sender;
 use fedrun_commands::{CommandAnswer, NodeFault, answer};
 use fedrun_expand::{asks_for_each, asks_for_expand, expand_command, expand_each_command};
 use fedrun_files::{Files, MachineFiles};
@@ -18,16 +18,15 @@ use fedrun_help::{asks_for_hints, print_version, words_hint};
 use fedrun_hints::{NotedFiles, print_hint, print_node_hint, print_stats_hint};
 use fedrun_hosts::{NodeAnswer, asks_for_node, node_answer, read_node_words};
 use fedrun_lint_source::{asks_for_source_lint, lint_source_command};
-use fedrun_logs::{LogDisk, MachineLogs};
+use fedrun_logs::MachineLogs;
 use fedrun_progress::{NoProgress, Progress, ProgressLine, asks_for_progress};
-use fedrun_stats::{NodeMeasures, RunMeasures, StatsFault, begin_stats, end_stats};
+use fedrun_stats::{NodeMeasures, RegularFiles, RunMeasures, StatsFault, begin_stats, end_stats};
 use fedrun_watch::{View, show, view_asked};
 use fedrun_whole::given;
 use fedrun_words::{Fault, asks_for_version, print_text, read_words, refuse, stats_file};
-use files_keeping::Device;
-use files_saving::{Disk, MachineDisk, SaveFault};
+use files_saving::{MachineDisk, SaveFault};
 use std::alloc::Global;
-use std::fs::OpenOptions;
+use std::fs::{File, OpenOptions};
 use std::io::{ErrorKind, IsTerminal, Write};
 use std::net::{Net, TcpListener, TcpStream};
 use std::process::ExitCode;
@@ -36,7 +35,7 @@ use std::sync::Wait;
 use std::thread::Threads;
 use std::time::Clock;
 use std::{fs, rt, thread};
-use wires_hosts::{Measured, Teller, Told};
+use wires_hosts::{Measured, Teller, Watcher};
 
 /// The exit status where words are no command.
 const USAGE: u8 = 2;
@@ -54,41 +53,8 @@ fn main(rt: HostRuntime) -> ExitCode {
             let (words, said) = asks_for_hints(words.as_slice());
             let hints = said.unwrap_or(err.is_terminal());
             let mut files = NotedFiles::new(rt.alloc(), MachineFiles::new(&rt, rt.stdin()), hints);
-            let mut saved = MachineDisk::new(&rt);
-            let status = if asks_for_version(words) {
-                say_version(&mut out, &mut err)
-            } else if asks_for_node(words) {
-                let mut disk = MachineDisk::new(&rt);
-                let mut logs = MachineLogs::new(&rt);
-                let mut shown = rt.stderr();
-                measure_node(
-                    &rt, words, &mut files, &mut disk, &mut logs, &mut saved, &mut out, &mut err,
-                    &mut shown,
-                )
-            } else if asks_for_expand(words) || asks_for_source_lint(words) {
-                run_source(&rt, words, &mut files, &mut out, &mut err)
-            } else if asks_for_progress(words) {
-                let line = ProgressLine::new(&rt);
-                let mut shown = rt.stderr();
-                let (_, status) = thread::join(
-                    &rt,
-                    || line.show(rt.alloc(), &mut shown),
-                    || measure_command(
-                        &rt, words, &mut files, &mut saved, &mut out, &mut err, &line,
-                    ),
-                );
-                status
-            } else {
-                measure_command(
-                    &rt,
-                    words,
-                    &mut files,
-                    &mut saved,
-                    &mut out,
-                    &mut err,
-                    &NoProgress,
-                )
-            };
+            let mut shown = rt.stderr();
+            let status = run_words(&rt, words, &mut files, &mut out, &mut err, &mut shown);
             if hints && status == USAGE {
                 hint(rt.alloc(), words, &mut err);
             }
@@ -100,6 +66,47 @@ fn main(rt: HostRuntime) -> ExitCode {
         }
     };
     ExitCode::from(status)
+}
+
+// Does what words ask for, and answers the exit status; beside it is shown how far that is, where they ask for it.
+fn run_words<
+    R: AllocGlobal
+        + Threads
+        + Wait
+        + Clock
+        + Net<Stream = TcpStream, Listener = TcpListener>
+        + RandomSource
+        + rt::Files<File = File>
+        + Sync,
+    F: Files + Drop,
+    O: Write,
+    E: Write,
+    S: Write + Send,
+>(
+    rt: &R,
+    words: &[String],
+    files: &mut NotedFiles<F>,
+    out: &mut O,
+    err: &mut E,
+    shown: &mut S,
+) -> u8 {
+    if asks_for_version(words) {
+        say_version(out, err)
+    } else if asks_for_node(words) {
+        measure_node(rt, words, files, out, err, shown)
+    } else if asks_for_expand(words) || asks_for_source_lint(words) {
+        run_source(rt, words, files, out, err)
+    } else if asks_for_progress(words) {
+        let line = ProgressLine::new(rt);
+        let (_, status) = thread::join(
+            rt,
+            || line.show(rt.alloc(), shown),
+            || measure_command(rt, words, files, out, err, &line),
+        );
+        status
+    } else {
+        measure_command(rt, words, files, out, err, &NoProgress)
+    }
 }
 
 // Says why words are no command, and what they may be.
@@ -118,17 +125,17 @@ fn say_version<O: Write, E: Write>(out: &mut O, err: &mut E) -> u8 {
     refuse(&fault, err).status
 }
 
-// Who tells what is in view of a node, with the end where that is taken. None where nothing is, or there is no memory:
-// then nobody watches.
-fn watched<C: Clock>(clock: &C, alloc: Global, view: View) -> Option<(Teller, Receiver<Told>)> {
+// Who tells what is in view of a node, with whoever watches it. None where nothing is, or there is no memory: then nobody
+// watches.
+fn watched<C: Clock>(clock: &C, alloc: Global, view: View) -> Option<(Teller, Watcher)> {
     if view.is_empty() {
         return None;
     }
-    let (teller, told) = Teller::watched(clock, alloc).ok()?;
+    let (teller, watcher) = Teller::watched(clock, alloc).ok()?;
     if view.rows {
-        Some((teller.with_looks(), told))
+        Some((teller.with_looks(), watcher))
     } else {
-        Some((teller, told))
+        Some((teller, watcher))
     }
 }
 
@@ -140,9 +147,9 @@ fn measure_command<
         + Clock
         + Net<Stream = TcpStream, Listener = TcpListener>
         + RandomSource
+        + rt::Files<File = File>
         + Sync,
     F: Files + Drop,
-    D: Disk,
     O: Write,
     E: Write,
     P: Progress + Sync,
@@ -150,7 +157,6 @@ fn measure_command<
     rt: &R,
     words: &[String],
     files: &mut NotedFiles<F>,
-    saved: &mut D,
     out: &mut O,
     err: &mut E,
     progress: &P,
@@ -159,13 +165,16 @@ fn measure_command<
         Some(name) if read_words(rt.alloc(), words).is_ok() => name,
         _ => return run_command(rt, words, files, out, err, progress),
     };
-    let drawn = match begin_measuring(rt, name, files, saved) {
-        Ok(drawn) => drawn,
+    let mut regular = RegularFiles::new(rt);
+    let mut saved = MachineDisk::new(rt);
+    let drawn = drawn_number(rt);
+    match begin_stats(rt.alloc(), name, drawn, &mut regular, &mut saved) {
+        Ok(()) => {}
         Err(fault) => {
             progress.end();
             return refuse_stats(fault, files, err);
         }
-    };
+    }
     let measures = RunMeasures::new(rt, progress);
     let status = run_command(rt, words, files, out, err, &measures);
     end_stats(
@@ -174,29 +183,10 @@ fn measure_command<
         drawn,
         measures.stats(status),
         status,
-        files,
-        saved,
+        &mut regular,
+        &mut saved,
         err,
     )
-}
-
-// Sees to it that what is measured can be saved under this name, and answers the number by which the temporary file is
-// called. What is read there isn't noted: it is no file of the command's.
-fn begin_measuring<'a, R: AllocGlobal + RandomSource, F: Files + Drop, D: Disk>(
-    rt: &R,
-    name: &'a str,
-    files: &mut NotedFiles<F>,
-    saved: &mut D,
-) -> Result<u32, StatsFault<'a>> {
-    let drawn = drawn_number(rt);
-    let is_noting = files.is_noting;
-    files.is_noting = false;
-    let begun = begin_stats(rt.alloc(), name, drawn, files, saved);
-    files.is_noting = is_noting;
-    match begun {
-        Ok(()) => Ok(drawn),
-        Err(fault) => Err(fault),
-    }
 }
 
 // A number that hardly another process draws; 0 where the machine gives no random bytes.
@@ -260,12 +250,9 @@ fn measure_node<
         + Clock
         + Net<Stream = TcpStream, Listener = TcpListener>
         + RandomSource
+        + rt::Files<File = File>
         + Sync,
     F: Files + Drop,
-    D: Disk,
-    L: LogDisk<V>,
-    V: Device + Drop + Send,
-    K: Disk,
     O: Write,
     E: Write,
     S: Write + Send,
@@ -273,26 +260,35 @@ fn measure_node<
     rt: &R,
     words: &[String],
     files: &mut NotedFiles<F>,
-    disk: &mut D,
-    logs: &mut L,
-    saved: &mut K,
     out: &mut O,
     err: &mut E,
     shown: &mut S,
 ) -> u8 {
     let name = match stats_file(rt.alloc(), words) {
         Some(name) if read_node_words(rt.alloc(), words).is_ok() => name,
-        _ => return run_node(rt, words, files, disk, logs, out, err, shown, None),
+        _ => return run_node(rt, words, files, out, err, shown, None),
     };
-    let drawn = match begin_measuring(rt, name, files, saved) {
-        Ok(drawn) => drawn,
+    let mut regular = RegularFiles::new(rt);
+    let mut saved = MachineDisk::new(rt);
+    let drawn = drawn_number(rt);
+    match begin_stats(rt.alloc(), name, drawn, &mut regular, &mut saved) {
+        Ok(()) => {}
         Err(fault) => return refuse_stats(fault, files, err),
-    };
+    }
     match NodeMeasures::new(rt, rt.alloc()) {
         Ok((measures, to)) => {
-            let status = run_node(rt, words, files, disk, logs, out, err, shown, Some(to));
+            let status = run_node(rt, words, files, out, err, shown, Some(to));
             let stats = measures.stats(rt, status);
-            end_stats(rt.alloc(), name, drawn, stats, status, files, saved, err)
+            end_stats(
+                rt.alloc(),
+                name,
+                drawn,
+                stats,
+                status,
+                &mut regular,
+                &mut saved,
+                err,
+            )
         }
         Err(_) => {
             let why = SaveFault::CannotWrite;
@@ -318,11 +314,9 @@ fn run_node<
         + Clock
         + Net<Stream = TcpStream, Listener = TcpListener>
         + RandomSource
+        + rt::Files<File = File>
         + Sync,
     F: Files + Drop,
-    D: Disk,
-    L: LogDisk<V>,
-    V: Device + Drop + Send,
     O: Write,
     E: Write,
     S: Write + Send,
@@ -330,26 +324,28 @@ fn run_node<
     rt: &R,
     words: &[String],
     files: &mut NotedFiles<F>,
-    disk: &mut D,
-    logs: &mut L,
     out: &mut O,
     err: &mut E,
     shown: &mut S,
     to: Option<Sender<Measured>>,
 ) -> u8 {
+    let mut disk = MachineDisk::new(rt);
+    let mut logs = MachineLogs::new(rt);
     let view = view_asked(words);
     let answer = match watched(rt, rt.alloc(), view) {
-        Some((teller, told)) => {
+        Some((teller, watcher)) => {
             let teller = with_measures(rt, teller, to);
             // A fault comes last, behind all lines.
             let mut line: ArrayVec<u8, MOST_FAULT> = ArrayVec::new();
             let (_, answer) = thread::join(
                 rt,
-                || show(rt, rt.alloc(), &told, view, shown),
+                || show(rt, rt.alloc(), &watcher, view, shown),
                 || {
                     // Once it is gone all is shown.
                     let teller = teller;
-                    node_answer(rt, words, files, disk, logs, out, &mut line, &teller)
+                    node_answer(
+                        rt, words, files, &mut disk, &mut logs, out, &mut line, &teller,
+                    )
                 },
             );
             let _is_told = err.write_all(line.as_slice());
@@ -357,7 +353,7 @@ fn run_node<
         }
         None => {
             let teller = with_measures(rt, Teller::silent(), to);
-            node_answer(rt, words, files, disk, logs, out, err, &teller)
+            node_answer(rt, words, files, &mut disk, &mut logs, out, err, &teller)
         }
     };
     let NodeAnswer { status, fault } = answer;

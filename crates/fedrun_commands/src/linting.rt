@@ -89,7 +89,7 @@ fn print_lint<'a, O: Write>(
         bytes: bytes_in(second),
     };
     let third = named(third);
-    match print_report(alloc, &first, &second, &third, out) {
+    match print_report(alloc, &first, &second, third, out) {
         Ok(false) => Ok(()),
         Ok(true) => Err(Fault::More(NodeFault::NotTaken)),
         Err(LintFault::Memory) => Err(Fault::Load(LoadFault::Memory)),

@@ -194,13 +194,27 @@ impl fmt::Display for MissingOptions<'_> {
     fn fmt<W: fmt::Write>(&self, f: &mut fmt::Formatter<W>) -> fmt::Result {
         let options = self.options;
         for option in options {
-            if option.is_needed && self.error.contains(option.name) {
+            if option.is_needed && names(self.error, option) {
                 let option = MissingOption(option);
                 write!(f, "{option}")?;
             }
         }
         Ok(())
     }
+}
+
+// Whether what `clap` says names this option, with its hyphens.
+fn names(error: &str, option: &OptionWords) -> bool {
+    error
+        .split("--")
+        .skip(1)
+        .any(|behind| begins_with_word(behind, option.name))
+}
+
+// Whether a text begins with this word, behind which it ends or a space stands.
+fn begins_with_word(text: &str, word: &str) -> bool {
+    text.strip_prefix(word)
+        .is_some_and(|behind| behind.is_empty() || behind.starts_with(' '))
 }
 
 // What an option is that has to be there, and isn't.
@@ -252,101 +266,91 @@ fn tip_on_inputs(command: &CommandWords, words: &[String]) -> Option<&'static st
     }
 }
 
-/// A word, the command that hasn't it, or an empty text for any, and what to write.
-type Tip = (&'static str, &'static str, &'static str);
+/// What to write in the place of words that a command hasn't.
+#[derive(Clone, Copy)]
+struct Tip {
+    words: &'static [&'static str],
+    /// The commands of which it is told; none where it is of any.
+    commands: &'static [&'static str],
+    text: &'static str,
+}
+
+impl Tip {
+    // Whether it is told of this word of this command.
+    fn is_of(&self, command: &str, word: &str) -> bool {
+        self.words.contains(&word) && (self.commands.is_empty() || self.commands.contains(&command))
+    }
+}
 
 const TIPS: &[Tip] = &[
-    (
-        "--turns",
-        "whole",
-        "TURNS is the third word here, without --turns",
-    ),
-    (
-        "--turns",
-        "",
-        "turns are limited by run, record and join alone",
-    ),
-    (
-        "--hints",
-        "",
-        "--hints, or --hints=never, is the first word, before the command",
-    ),
-    (
-        "--hint",
-        "",
-        "--hints, or --hints=never, is the first word, before the command",
-    ),
-    (
-        "--hints=never",
-        "",
-        "--hints, or --hints=never, is the first word, before the command",
-    ),
-    (
-        "--port",
-        "",
-        "the port stands behind the address, as 127.0.0.1:7000",
-    ),
-    (
-        "--address",
-        "",
-        "the address is given by --listen to coordinate, and by --connect to join",
-    ),
-    (
-        "--connect",
-        "coordinate",
-        "a coordinator listens, by --listen ADDRESS:PORT",
-    ),
-    (
-        "--listen",
-        "join",
-        "a federate connects, by --connect ADDRESS:PORT",
-    ),
-    (
-        "--report",
-        "audit",
-        "report files are named without an option, behind IN, the coordinator's first",
-    ),
-    (
-        "--out",
-        "coordinate",
-        "the report's file is named by --report FILE",
-    ),
-    (
-        "--out",
-        "join",
-        "the report's file is named by --report FILE",
-    ),
-    (
-        "-o",
-        "coordinate",
-        "the report's file is named by --report FILE",
-    ),
-    ("-o", "join", "the report's file is named by --report FILE"),
-    (
-        "-o",
-        "draw",
-        "the picture is printed, and goes to a file by > FILE, as > picture.svg",
-    ),
-    (
-        "--out",
-        "draw",
-        "the picture is printed, and goes to a file by > FILE, as > picture.svg",
-    ),
-    ("-o", "", "what is printed goes to a file by > FILE"),
-    ("--out", "", "what is printed goes to a file by > FILE"),
-    (
-        "--stats",
-        "",
-        "run, coordinate and join alone count, by --stats FILE",
-    ),
-    (
-        "--step",
-        "",
-        "steps are told by frames FED IN SCHEDULE, and draw has --from STEP and --to STEP",
-    ),
+    Tip {
+        words: &["--turns"],
+        commands: &["whole"],
+        text: "TURNS is the third word here, without --turns",
+    },
+    Tip {
+        words: &["--turns"],
+        commands: &[],
+        text: "turns are limited by run, record and join alone",
+    },
+    Tip {
+        words: &["--hints", "--hint", "--hints=never"],
+        commands: &[],
+        text: "--hints, or --hints=never, is the first word, before the command",
+    },
+    Tip {
+        words: &["--port"],
+        commands: &[],
+        text: "the port stands behind the address, as 127.0.0.1:7000",
+    },
+    Tip {
+        words: &["--address"],
+        commands: &[],
+        text: "the address is given by --listen to coordinate, and by --connect to join",
+    },
+    Tip {
+        words: &["--connect"],
+        commands: &["coordinate"],
+        text: "a coordinator listens, by --listen ADDRESS:PORT",
+    },
+    Tip {
+        words: &["--listen"],
+        commands: &["join"],
+        text: "a federate connects, by --connect ADDRESS:PORT",
+    },
+    Tip {
+        words: &["--report"],
+        commands: &["audit"],
+        text: "report files are named without an option, behind IN, the coordinator's first",
+    },
+    Tip {
+        words: &["--out", "-o"],
+        commands: &["coordinate", "join"],
+        text: "the report's file is named by --report FILE",
+    },
+    Tip {
+        words: &["--out", "-o"],
+        commands: &["draw"],
+        text: "the picture is printed, and goes to a file by > FILE, as > picture.svg",
+    },
+    Tip {
+        words: &["--out", "-o"],
+        commands: &[],
+        text: "what is printed goes to a file by > FILE",
+    },
+    Tip {
+        words: &["--stats"],
+        commands: &[],
+        text: "run, coordinate and join alone count, by --stats FILE",
+    },
+    Tip {
+        words: &["--step"],
+        commands: &[],
+        text: "steps are told by frames FED IN SCHEDULE, and draw has --from STEP and --to STEP",
+    },
 ];
 
-/// The same of a first word.
+/// A first word that is no command, and what to write in its place.
 const FIRST_TIPS: &[(&str, &str)] = &[
     ("version", "--version says which version it is"),
     ("never", "--hints=never is one word"),
@@ -408,9 +412,9 @@ fn tip_on_word(command: &CommandWords, word: &str) -> Option<&'static str> {
     if has_option(command, word) {
         return None;
     }
-    for (known, of_command, tip) in TIPS {
-        if *known == word && (of_command.is_empty() || *of_command == command.name) {
-            return Some(*tip);
+    for tip in TIPS {
+        if tip.is_of(command.name, word) {
+            return Some(tip.text);
         }
     }
     if begins_with_dash(word) {

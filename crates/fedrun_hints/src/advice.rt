@@ -56,7 +56,7 @@ pub(crate) const UNFINISHED: &str =
 /// What to do where a file can't be made.
 const FOLDER: &str = "look whether its folder is there, as seen from this one, and may be changed";
 
-/// The same where it can be made, and not be written.
+/// The same where it can be made, and not be written or get its name.
 const ROOM: &str = "look at the room on the disk and at the folder's permissions";
 
 /// What to do where the file of `--stats` can't be had, for this reason.
@@ -65,8 +65,15 @@ pub(crate) fn advice_on_stats(why: SaveFault) -> &'static str {
         SaveFault::Exists => {
             "something that --stats didn't save has this name, or what has it can't be read: give another name; nothing was begun"
         }
+        _ => advice_on_saving(why),
+    }
+}
+
+// What to do where a file isn't saved.
+fn advice_on_saving(why: SaveFault) -> &'static str {
+    match why {
         SaveFault::CannotLook | SaveFault::CannotCreate => FOLDER,
-        SaveFault::CannotWrite | SaveFault::CannotSync | SaveFault::CannotRename => ROOM,
+        _ => ROOM,
     }
 }
 
@@ -94,47 +101,20 @@ pub(crate) fn advice_on_report(why: NodeFileFault) -> Option<&'static str> {
 /// What to do about the fault of a node on a machine of its own, which keeps a log or was to keep none.
 pub(crate) fn advice_on_node(fault: &HostFault<'_>, keeps_log: bool) -> Option<&'static str> {
     match fault {
-        HostFault::Secret(SecretFault::TooShort) => Some(
-            "a secret has at least 16 bytes, not counting zeros at its end; head -c 32 /dev/urandom makes one",
+        HostFault::Secret(why) => Some(advice_on_secret(*why)),
+        HostFault::ReportExists(_) => Some(
+            "a file of that name is there, or a folder: give another name, of a file, or put away what has that one where it is no other node's report; nothing was begun",
         ),
-        HostFault::Secret(SecretFault::TooLong) => {
-            Some("a secret has at most 4096 bytes: another file may be meant")
-        }
-        HostFault::Secret(SecretFault::Missing) => Some(
-            "a host's name, localhost too, and an address that isn't on loopback need --secret FILE, of the same bytes at each node; 127.0.0.1 needs none",
-        ),
-        HostFault::ReportExists(_) => {
-            Some(
-                "a file of that name is there, or a folder: give another name, of a file, or put away what has that one where it is no other node's report; nothing was begun",
-            )
-        }
-        HostFault::PartExists(_) if keeps_log => Some(
-            "another process has this log, as where two nodes are given one report: give each its own; or a node with --sync no was ended in the midst, as a line in the file says: then end the run, remove the file, and begin the run anew",
-        ),
-        HostFault::PartExists(_) => Some(
-            "where the file begins with fedrep 2, it is this node's log: leave out --sync no, and it goes on; else another process has this report, or a node with --sync no was ended in the midst: then end the run, remove the file, and begin the run anew",
-        ),
+        HostFault::PartExists(_) => Some(advice_on_part(keeps_log)),
         HostFault::OtherLog(_) => Some(
             "the log is of other files, another node or other rules: give the words that belong to it; or another name, where this node was never let in, as after 118",
         ),
         HostFault::Damaged(_) => Some(
             "put a copy of the log there as it was at its end; else end all nodes, and begin the run anew",
         ),
-        HostFault::Unkept(_, KeepFault::CannotOpen) => Some(
-            "nothing was begun: look whether its folder is there, as seen from this one, and may be changed",
-        ),
-        HostFault::Unkept(_, _) => Some(
-            "all that left the node is in the log: make room on the disk, look at the folder's permissions, and give the same words again",
-        ),
-        HostFault::Unsaved(_, SaveFault::CannotLook | SaveFault::CannotCreate) => Some(FOLDER),
-        HostFault::Unsaved(_, _) => Some(ROOM),
-        HostFault::Refused(DialFault::OtherFiles) => Some(
-            "the coordinator has another federation file or another input file: compare sha256sum on both machines; this node was never let in, so its report or .part is removed before it begins with the right file",
-        ),
-        HostFault::Refused(DialFault::NoSuchFederate) => Some(
-            "who answers there has these very files, and no federate of that number: look at the address",
-        ),
-        HostFault::Refused(_) => Some("the coordinator lets this federate take part no more"),
+        HostFault::Unkept(_, why) => Some(advice_on_log(*why)),
+        HostFault::Unsaved(_, why) => Some(advice_on_saving(*why)),
+        HostFault::Refused(why) => Some(advice_on_refusal(*why)),
         HostFault::NotProved => Some(
             "whoever answered there hasn't the same secret, or has one and none was given here, or is no coordinator: compare sha256sum of both secrets, of which each byte counts, and look at the address",
         ),
@@ -146,5 +126,52 @@ pub(crate) fn advice_on_node(fault: &HostFault<'_>, keeps_log: bool) -> Option<&
         | HostFault::NotFinished(_)
         | HostFault::Unwritten(_)
         | HostFault::Memory(_) => None,
+    }
+}
+
+// The same where there is no key.
+fn advice_on_secret(why: SecretFault) -> &'static str {
+    match why {
+        SecretFault::TooShort => {
+            "a secret has at least 16 bytes, not counting zeros at its end; head -c 32 /dev/urandom makes one"
+        }
+        SecretFault::TooLong => "a secret has at most 4096 bytes: another file may be meant",
+        SecretFault::Missing => {
+            "a host's name, localhost too, and an address that isn't on loopback need --secret FILE, of the same bytes at each node; 127.0.0.1 needs none"
+        }
+    }
+}
+
+// The same where the temporary file of a report is there, which is the log of a node that keeps one.
+fn advice_on_part(keeps_log: bool) -> &'static str {
+    if keeps_log {
+        "another process has this log, as where two nodes are given one report: give each its own; or a node with --sync no was ended in the midst, as a line in the file says: then end the run, remove the file, and begin the run anew"
+    } else {
+        "where the file begins with fedrep 2, it is this node's log: leave out --sync no, and it goes on; else another process has this report, or a node with --sync no was ended in the midst: then end the run, remove the file, and begin the run anew"
+    }
+}
+
+// The same where a log can't be opened, or takes nothing more.
+fn advice_on_log(why: KeepFault) -> &'static str {
+    match why {
+        KeepFault::CannotOpen => {
+            "nothing was begun: look whether its folder is there, as seen from this one, and may be changed"
+        }
+        _ => {
+            "all that left the node is in the log: make room on the disk, look at the folder's permissions, and give the same words again"
+        }
+    }
+}
+
+// The same where the coordinator doesn't let a federate take part.
+fn advice_on_refusal(why: DialFault) -> &'static str {
+    match why {
+        DialFault::OtherFiles => {
+            "the coordinator has another federation file or another input file: compare sha256sum on both machines; this node was never let in, so its report or .part is removed before it begins with the right file"
+        }
+        DialFault::NoSuchFederate => {
+            "who answers there has these very files, and no federate of that number: look at the address"
+        }
+        _ => "the coordinator lets this federate take part no more",
     }
 }

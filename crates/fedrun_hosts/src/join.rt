@@ -39,6 +39,7 @@ use recorder_reports::Report;
 use std::alloc::Global;
 use std::io::Write;
 use std::random::RandomSource;
+use std::sync::Wait;
 use wires::{
     FederateLines, FederateRun, NetRuntime, RunFault, Terms, counts_of, gather_desk, run_federate,
 };
@@ -174,7 +175,7 @@ fn join_reporting<
         Ok(()) => match fault_by(
             shows_other_history,
             heard.has_given_up(),
-            heard.last_fault(),
+            heard.last_fault(rt),
         ) {
             None => say_finished(out),
             Some(fault) => Err(Fault::More(fault)),
@@ -309,14 +310,15 @@ fn ran_logging<'n, 'a, R: NetRuntime + RandomSource, V: Device + Drop + Send>(
         Ok(file) => file,
         Err(why) => return Err(fault_of(joined.node.report, why)),
     };
-    match hears_finished(alloc, replayed, run, heard) {
+    match hears_finished(rt, alloc, replayed, run, heard) {
         Ok(()) => Ok(file),
         Err(fault) => Err(fault),
     }
 }
 
 // Why a federate's run isn't finished that left this, besides what was handed in before.
-fn hears_finished<'a>(
+fn hears_finished<'a, R: Wait>(
+    rt: &R,
     alloc: Global,
     replayed: Replayed<Federate<'_>>,
     run: Result<FederateRun, RunFault>,
@@ -326,7 +328,7 @@ fn hears_finished<'a>(
         Ok(shows) => shows,
         Err(why) => return Err(fault_of_run(why)),
     };
-    match fault_by(shows, heard.has_given_up(), heard.last_fault()) {
+    match fault_by(shows, heard.has_given_up(), heard.last_fault(rt)) {
         None => Ok(()),
         Some(fault) => Err(Fault::More(fault)),
     }

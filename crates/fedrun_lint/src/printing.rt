@@ -12,7 +12,7 @@ use std::alloc::{AllocError, Global};
 use std::io::Write;
 
 /// A file that is looked at.
-#[derive(Drop)]
+#[derive(Clone, Copy)]
 pub struct NamedFile<'a> {
     /// Its name, as it is printed.
     pub name: &'a str,
@@ -36,15 +36,15 @@ pub fn print_report<O: Write>(
     alloc: Global,
     federation: &NamedFile<'_>,
     inputs: &NamedFile<'_>,
-    schedule: &Option<NamedFile<'_>>,
+    schedule: Option<NamedFile<'_>>,
     out: &mut O,
 ) -> Result<bool, LintFault>
     ensures ok { IfOk result (λ is_wrong.
-        PrintsFullReport (given_file federation.now) (given_file inputs.now) (given_schedule schedule.now) is_wrong
+        PrintsFullReport (given_file federation.now) (given_file inputs.now) (given_schedule schedule.entry) is_wrong
         (O.contents out.old) (O.contents out.new)) }
     ensures memory { result ≡ Err LintFault.Memory → out.new ≡ out.old }
     ensures stopped { result ≡ Err LintFault.CannotWrite
-        → BeginsFullReport (given_file federation.now) (given_file inputs.now) (given_schedule schedule.now)
+        → BeginsFullReport (given_file federation.now) (given_file inputs.now) (given_schedule schedule.entry)
         (O.contents out.old) (O.contents out.new) }
 {
     let Ok(report) = full_report_on(alloc, federation.bytes, inputs.bytes, schedule) else {
@@ -63,10 +63,10 @@ fn full_report_on(
     alloc: Global,
     federation: Option<&[u8]>,
     inputs: Option<&[u8]>,
-    schedule: &Option<NamedFile<'_>>,
+    schedule: Option<NamedFile<'_>>,
 ) -> Result<FullReport, AllocError>
     ensures { IfOk result (IsFullReport (option_copied federation.entry) (option_copied inputs.entry)
-        (given_schedule schedule.now)) }
+        (given_schedule schedule.entry)) }
 {
     let files = report_on(alloc, federation, inputs)?;
     let schedule = refusal_if_given(alloc, federation, schedule)?;
@@ -74,8 +74,8 @@ fn full_report_on(
 }
 
 // The name of a schedule; of none there is nothing to print.
-fn name_of<'a>(schedule: &Option<NamedFile<'a>>) -> &'a str
-    ensures { result.now ≡ name_of (given_schedule schedule.now) }
+fn name_of<'a>(schedule: Option<NamedFile<'a>>) -> &'a str
+    ensures { result.now ≡ name_of (given_schedule schedule.entry) }
 {
     match schedule {
         Some(file) => file.name,

@@ -13,9 +13,9 @@ use std::alloc::{AllocError, Global};
 pub(crate) fn refusal_if_given(
     alloc: Global,
     federation: Option<&[u8]>,
-    schedule: &Option<NamedFile<'_>>,
+    schedule: Option<NamedFile<'_>>,
 ) -> Result<Option<ScheduleRefusal>, AllocError>
-    ensures { IfOk result (IsReportOnSchedule (given_schedule schedule.now) (option_copied federation.entry)) }
+    ensures { IfOk result (IsReportOnSchedule (given_schedule schedule.entry) (option_copied federation.entry)) }
 {
     match schedule {
         Some(file) => refusal_beside(alloc, federation, file.bytes),

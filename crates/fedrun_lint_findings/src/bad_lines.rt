@@ -200,7 +200,8 @@ pub(crate) fn put_bad_line(look: &mut Look<'_>, place: usize) {
         return;
     }
     let quoted = Quoted(text);
-    match bad_part(look.alloc, text) {
+    let has_escapes = tree.scalar(place).starts_with('"');
+    match bad_part(look.alloc, text, has_escapes) {
         Ok(Some(part)) => {
             let said = shown(part.said);
             let what = format!(in look.alloc; "{quoted}{said} ");
@@ -243,10 +244,14 @@ fn is_shown(text: &str) -> bool {
             .all(|byte| *byte == b' ' || byte.is_ascii_graphic())
 }
 
-// The part of a line that isn't understood, if it is known. The line is as it is written, so that of one with
-// backslashes or of several lines only a tab is known.
-fn bad_part(alloc: Global, line: &str) -> Result<Option<BadPart<'_>>, AllocError> {
-    if line.contains('\t') || line.contains("\\t") {
+// The part of a line that isn't understood, if it is known. The line is as it is written, where a backslash may stand
+// for something else or for itself, so that of one with backslashes or of several lines only a tab is known.
+fn bad_part(
+    alloc: Global,
+    line: &str,
+    has_escapes: bool,
+) -> Result<Option<BadPart<'_>>, AllocError> {
+    if has_tab(line, has_escapes) {
         return Ok(BadPart::of("a tab", "parts nothing: write a space in its place"));
     }
     if line.contains('\\') || line.starts_with('"') || line.starts_with("''") {
@@ -254,6 +259,12 @@ fn bad_part(alloc: Global, line: &str) -> Result<Option<BadPart<'_>>, AllocError
     }
     let tokens = tokens_of(alloc, line)?;
     Ok(part_of(tokens.as_slice()))
+}
+
+// Whether there is a tab in a line, or `\t` stands for one, as in double quotes. Where two backslashes stand together,
+// that isn't known.
+fn has_tab(line: &str, has_escapes: bool) -> bool {
+    line.contains('\t') || (has_escapes && line.contains("\\t") && !line.contains("\\\\"))
 }
 
 // The same of a line's tokens.

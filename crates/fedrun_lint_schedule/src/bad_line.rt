@@ -85,8 +85,24 @@ const TOML: &str =
 
 const SEMICOLON: &str = "it has a semicolon: each step stands on a line of its own";
 
-/// What is told of a line: in its own words, and behind these what is told of all such.
-pub(crate) type Told = (String, &'static str);
+/// What is told of a line.
+#[derive(Drop)]
+pub(crate) struct Told {
+    /// In its own words; empty where nothing is.
+    pub(crate) what: String,
+    /// What is told of all such.
+    pub(crate) advice: &'static str,
+}
+
+impl Told {
+    // Nothing but what is told of all such.
+    fn plainly(alloc: Global, advice: &'static str) -> Told {
+        Told {
+            what: String::new(alloc),
+            advice,
+        }
+    }
+}
 
 /// Why a line is refused: its bytes, its spaces, its first word, its direction, its federate where federates are known,
 /// or else how it goes on.
@@ -99,21 +115,21 @@ pub(crate) fn why_refused(
         return why_not_plain(alloc, line);
     };
     if let Some(why) = why_no_words(text) {
-        return Ok((String::new(alloc), why));
+        return Ok(Told::plainly(alloc, why));
     }
     let word = word_at(text, 0);
     let Some(form) = form_of(word.as_bytes()) else {
         return no_such_name(alloc, "step", word, STEPS);
     };
     if form.federate == 2 && !is_direction(word_at(text, 1)) {
-        return Ok((String::new(alloc), form.spelling));
+        return Ok(Told::plainly(alloc, form.spelling));
     }
     let name = word_at(text, form.federate);
     match federates {
         Some(federates) if form.federate != 0 && !name.is_empty() && !federates.contains(&name) => {
             no_such_name(alloc, "federate", name, federates)
         }
-        _ => Ok((String::new(alloc), form.spelling)),
+        _ => Ok(Told::plainly(alloc, form.spelling)),
     }
 }
 
@@ -139,12 +155,13 @@ fn why_not_plain(alloc: Global, line: &[u8]) -> Result<Told, AllocError> {
             Some(lookalike) => {
                 let place = lookalike.place;
                 let what = format!(in alloc; "its character {place} is ")?;
-                return Ok((what, lookalike.advice));
+                let advice = lookalike.advice;
+                return Ok(Told { what, advice });
             }
             None => NOT_ASCII,
         },
     };
-    Ok((String::new(alloc), why))
+    Ok(Told::plainly(alloc, why))
 }
 
 // Why a line isn't words of a step, if it isn't.
@@ -207,7 +224,7 @@ fn no_such_name(
         names,
     };
     let what = format!(in alloc; "{no_such_name}")?;
-    Ok((what, ""))
+    Ok(Told { what, advice: "" })
 }
 
 // The word of this number from 0 on of a text whose words are parted by one space each; empty where there is none.

@@ -4,7 +4,7 @@ ghost use Rattle.std.specs.Prelude.{◌≡◌, ◌<◌, length, IfOk};
 ghost use Rattle.files_script.specs.declared.fault.ScriptFault.TheVariants.{OverLimit};
 ghost use Rattle.fedrun_lint_schedule.specs.Refused.{AgreesOnSchedule, IsFirst};
 
-use crate::bad_line::{is_of_other_file, renamed, why_refused};
+use crate::bad_line::{Told, is_of_other_file, renamed, why_refused};
 use crate::names::federate_names;
 use crate::refusal::{ScheduleFinding, ScheduleRefusal};
 use files_script::{MOST_BYTES, ScriptFault, read_script};
@@ -20,8 +20,23 @@ const ANY_FEDERATION: &str = "stop = \"0\"\nfederate = [{ name = \"a\" }]";
 
 const ANY_FEDERATE: &str = "a";
 
-/// The bad lines of a schedule, and whether there are more than are told.
-type Found = (Vec<ScheduleFinding>, bool);
+/// The bad lines of a schedule.
+#[derive(Drop)]
+struct BadLines {
+    told: Vec<ScheduleFinding>,
+    /// Whether there are more than are told.
+    is_cut: bool,
+}
+
+impl BadLines {
+    // All that there are.
+    fn all(told: Vec<ScheduleFinding>) -> BadLines {
+        BadLines {
+            told,
+            is_cut: false,
+        }
+    }
+}
 
 /// Why a schedule of this plan is refused, if it is.
 pub fn look_at_schedule(
@@ -54,7 +69,7 @@ pub fn refusal_of_schedule(
         federates: Some(federates.as_slice()),
     };
     let found = match fault {
-        ScriptFault::OverLimit => (Vec::new(alloc), false),
+        ScriptFault::OverLimit => BadLines::all(Vec::new(alloc)),
         _ => reader.bad_lines(schedule)?,
     };
     Ok(refusal_of(alloc, fault, found))
@@ -80,17 +95,20 @@ pub fn look_at_form(alloc: Global, schedule: &[u8]) -> Result<Option<ScheduleRef
 }
 
 // Why a schedule is refused that has these bad lines.
-fn refusal_if_any(alloc: Global, found: Found) -> Option<ScheduleRefusal> {
-    let fault = found.0.first()?.fault;
+fn refusal_if_any(alloc: Global, found: BadLines) -> Option<ScheduleRefusal> {
+    let fault = found.told.first()?.fault;
     Some(refusal_of(alloc, fault, found))
 }
 
 // Why a schedule is refused that has this fault: it is told as that of the first bad line, and where there is none, as
 // one of the whole file.
-fn refusal_of(alloc: Global, fault: ScriptFault, found: Found) -> ScheduleRefusal
+fn refusal_of(alloc: Global, fault: ScriptFault, found: BadLines) -> ScheduleRefusal
     ensures { result.first.fault ≡ fault }
 {
-    let (mut more, is_cut) = found;
+    let BadLines {
+        told: mut more,
+        is_cut,
+    } = found;
     let first = if more.is_empty() {
         ScheduleFinding::of_whole_file(alloc, fault)
     } else {
@@ -125,23 +143,23 @@ struct Reader<'a> {
 impl Reader<'_> {
     // The lines that are bad, up to as many as are told; of a file that has no step and is TOML or UTF-16 up to the first
     // one of it.
-    fn bad_lines(self, schedule: &[u8]) -> Result<Found, AllocError> {
+    fn bad_lines(self, schedule: &[u8]) -> Result<BadLines, AllocError> {
         let has_step = self.has_step(schedule)?;
-        let mut found = Vec::new(self.alloc);
+        let mut told = Vec::new(self.alloc);
         let mut number = 0usize;
         for line in schedule.split(|byte| *byte == b'\n') {
             number = number.saturating_add(1);
             if self.kind(line)? == LineKind::Bad {
-                if found.len() >= MOST_LINES {
-                    return Ok((found, true));
+                if told.len() >= MOST_LINES {
+                    return Ok(BadLines { told, is_cut: true });
                 }
-                found.push(self.finding(number, line)?)?;
+                told.push(self.finding(number, line)?)?;
                 if !has_step && is_of_other_file(line) {
-                    return Ok((found, false));
+                    return Ok(BadLines::all(told));
                 }
             }
         }
-        Ok((found, false))
+        Ok(BadLines::all(told))
     }
 
     // Whether a line of a schedule is a step.
@@ -165,7 +183,7 @@ impl Reader<'_> {
 
     // What is told of the line of this number, which is bad.
     fn finding(self, number: usize, line: &[u8]) -> Result<ScheduleFinding, AllocError> {
-        let (what, advice) = why_refused(self.alloc, line, self.federates)?;
+        let Told { what, advice } = why_refused(self.alloc, line, self.federates)?;
         Ok(ScheduleFinding {
             fault: ScriptFault::ScheduleLine(number),
             what,

@@ -11,16 +11,20 @@
 //! (`end_stats`). How long what took is reckoned from its moments as `specs/Measured` says; that these are told when
 //! they come, and what was counted, is shown by tests: nothing that a command does rests on it.
 //!
+//! What has the name is read among the machine's regular files (`RegularFiles`): nothing else is opened.
+//!
 //! Begin with `saving.rt`, then `measures.rt`.
 #![tactic(auto)]
 
 pub mod fault;
 mod measures;
 pub mod node_measures;
+pub mod regular;
 pub mod run_measures;
 pub mod saving;
 
 pub use fault::StatsFault;
 pub use node_measures::NodeMeasures;
+pub use regular::RegularFiles;
 pub use run_measures::RunMeasures;
 pub use saving::{begin_stats, end_stats, save_stats};

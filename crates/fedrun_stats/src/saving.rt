@@ -64,10 +64,7 @@ fn begin<F: Files, D: Disk>(
     ensures replaceable { OnOk result
         (MayGo (D.contents disk.old) (F.contents files.old name.now) name.now) }
 {
-    match disk.create(temporary) {
-        Ok(()) => {}
-        Err(why) => return Err(why),
-    }
+    disk.create(temporary)?;
     let looked = look(name, files, disk);
     disk.remove(temporary);
     looked
@@ -81,10 +78,8 @@ fn look<F: Files, D: Disk>(name: &str, files: &mut F, disk: &mut D) -> Result<()
     ensures looked { OnOk result (MayGo (D.contents disk.old) (F.contents files.old name.now) name.now) }
     ensures fault { IfErr result (λ fault. is_of_writing fault ≡ false) }
 {
-    match disk.exists(name) {
-        Ok(false) => return Ok(()),
-        Ok(true) => {}
-        Err(why) => return Err(why),
+    if !disk.exists(name)? {
+        return Ok(());
     }
     match files.bytes(name, MOST_BYTES) {
         Ok(bytes) if is_stats(bytes.as_slice()) => Ok(()),
@@ -162,14 +157,8 @@ fn replace<F: Files, D: Disk>(
     let Some(text) = text_of(alloc, stats) else {
         return Err(SaveFault::CannotWrite);
     };
-    match write_anew(temporary, text.as_slice(), disk) {
-        Ok(()) => {}
-        Err(why) => return Err(why),
-    }
-    match look(name, files, disk) {
-        Ok(()) => {}
-        Err(why) => return Err(why),
-    }
+    write_anew(temporary, text.as_slice(), disk)?;
+    look(name, files, disk)?;
     disk.remove(name);
     disk.rename(temporary, name)
 }

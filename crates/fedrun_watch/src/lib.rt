@@ -24,4 +24,4 @@ pub mod showing;
 mod standings;
 
 pub use screen::{Screen, View};
-pub use showing::{print_happened, show, view_asked};
+pub use showing::{print_happened, print_left_out, show, view_asked};

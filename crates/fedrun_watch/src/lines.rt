@@ -36,9 +36,9 @@ impl fmt::Display for HappenedLines<'_> {
     }
 }
 
-// The line that says how often something had happened for which there was no room.
+/// The line that says how often something had happened for which there was no room, if something had.
 #[derive(Drop)]
-struct LeftOut(u64);
+pub(crate) struct LeftOut(pub u64);
 
 impl fmt::Display for LeftOut {
     ghost use Rattle.std.specs.Prelude.{Some};

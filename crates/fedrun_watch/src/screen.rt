@@ -1,6 +1,6 @@
 //! What is shown of a node: lines of what happens, and below them one for each federate, which is drawn again.
 use crate::picture::{Wiped, picture_of};
-use crate::showing::print_happened;
+use crate::showing::{print_happened, print_left_out};
 use fedrun_words::print_text;
 use plan_names::Text;
 use std::alloc::Global;
@@ -59,11 +59,24 @@ impl Screen {
             Told::Stands(standing) => self.stand(standing),
             Told::Looked(looked) => self.draw(looked, err),
             Told::Wipe(until) => {
-                self.wipe(err);
-                self.is_over = true;
+                self.end_looks(err);
                 // Whoever waits for that goes on.
                 drop(until);
             }
+        }
+    }
+
+    /// Wipes what would be drawn again, and draws no look any more.
+    pub fn end_looks<E: Write>(&mut self, err: &mut E) {
+        self.wipe(err);
+        self.is_over = true;
+    }
+
+    /// Nothing more is told, and so much was left out of which no line says so.
+    pub fn end<E: Write>(&mut self, left_out: u64, err: &mut E) {
+        self.end_looks(err);
+        if self.view.lines {
+            let _is_written = print_left_out(left_out, err);
         }
     }
 

@@ -17,4 +17,6 @@ mod refusals;
 #[cfg(test)]
 mod sources;
 #[cfg(test)]
+mod tokens;
+#[cfg(test)]
 mod unchanged;

@@ -1,6 +1,7 @@
 //! How a file is read to its end: in pieces, with interruptions, up to its limit, and with errors. How files of the
-//! machine are read, and its standard input.
+//! machine are read, regular ones alone, and its standard input.
 use fedrun_files::{FileFault, Files, MachineFiles, read_to_end};
+use fedrun_stats::RegularFiles;
 use std::alloc::Global;
 use std::io::{ErrorKind, Read};
 use std::{fs, io, rt};
@@ -115,6 +116,38 @@ fn are_files_read<R: rt::Files + AllocGlobal>(rt: &R) -> bool {
 #[test]
 fn reads_files_of_the_machine(rt: HostRuntime) {
     assert!(rt; are_files_read(&rt));
+}
+
+/// What isn't a regular file: devices without bytes and with any number of them, and a folder.
+const IRREGULAR: &[&str] = &["/dev/null", "/dev/zero", "."];
+
+// The first of these that is read among the machine's regular files.
+fn first_opened<R: rt::Files + AllocGlobal>(rt: &R) -> Option<&'static str> {
+    let mut files = RegularFiles::new(rt);
+    for name in IRREGULAR {
+        if !gives(&mut files, *name, 5, Err(FileFault::Unreadable)) {
+            return Some(*name);
+        }
+    }
+    None
+}
+
+// Whether a file of five bytes is read there, at most this many or one less, and one that isn't there is not.
+fn are_regular_ones_read<R: rt::Files + AllocGlobal>(rt: &R) -> bool {
+    let name = "regular_bytes";
+    let mut files = RegularFiles::new(rt);
+    let is_written = fs::write(rt, name, "bytes").is_ok();
+    let is_read = gives(&mut files, name, 5, Ok("bytes"));
+    let is_over = gives(&mut files, name, 4, Err(FileFault::OverLimit));
+    let is_removed = fs::remove_file(rt, name).is_ok();
+    let is_gone = gives(&mut files, name, 5, Err(FileFault::Unreadable));
+    is_written && is_read && is_over && is_removed && is_gone
+}
+
+#[test]
+fn reads_regular_files_alone(rt: HostRuntime) {
+    assert!(rt; are_regular_ones_read(&rt));
+    assert_eq!(rt; first_opened(&rt), None);
 }
 
 /// A file of five bytes, and one that has the name of standard input.

@@ -18,6 +18,8 @@ mod logged;
 #[cfg(test)]
 mod measured;
 #[cfg(test)]
+mod no_room;
+#[cfg(test)]
 mod nodes;
 #[cfg(test)]
 mod not_begun;

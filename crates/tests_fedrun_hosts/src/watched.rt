@@ -12,7 +12,7 @@ use std::random::RandomSource;
 use std::sync::Wait;
 use std::thread;
 use tests_samples::Machine;
-use wires_hosts::{Teller, Told};
+use wires_hosts::{Teller, Watcher};
 
 /// Lines alone are shown.
 const LINES: View = View {
@@ -21,9 +21,9 @@ const LINES: View = View {
 };
 
 // What is written of all that a node has told, which has ended.
-fn written<R: Wait>(rt: &R, alloc: Global, told: &Receiver<Told>) -> Option<String> {
+fn written<R: Wait>(rt: &R, alloc: Global, watcher: &Watcher) -> Option<String> {
     let mut lines = Vec::new(alloc);
-    show(rt, alloc, told, LINES, &mut lines);
+    show(rt, alloc, watcher, LINES, &mut lines);
     String::from_utf8(lines).ok()
 }
 
@@ -53,7 +53,7 @@ fn lines_of_run<R: Machine + Net<Stream = TcpStream, Listener = TcpListener> + R
 ) -> Option<String> {
     let alloc = rt.alloc();
     let files = SharedFiles::new(alloc);
-    let (teller, told) = Teller::watched(rt, alloc).ok()?;
+    let (teller, watcher) = Teller::watched(rt, alloc).ok()?;
     let (to, from) = unbounded(alloc).ok()?;
     let (end, are_right) = thread::join(
         rt,
@@ -62,7 +62,7 @@ fn lines_of_run<R: Machine + Net<Stream = TcpStream, Listener = TcpListener> + R
     );
     let (status, err) = end?;
     if status == 0 && err.is_empty() && are_right? {
-        written(rt, alloc, &told)
+        written(rt, alloc, &watcher)
     } else {
         None
     }
@@ -138,12 +138,12 @@ fn lines_given_up<
     O: Write,
 >(rt: &R, files: &SharedFiles, words: &[&str], out: &mut O) -> Option<String> {
     let alloc = rt.alloc();
-    let (teller, told) = Teller::watched(rt, alloc).ok()?;
+    let (teller, watcher) = Teller::watched(rt, alloc).ok()?;
     let mut disk = Process::new(rt, files, None);
     let mut logs = Process::new(rt, files, None);
     let (status, err) = watched(rt, words, SECRET, &mut disk, &mut logs, out, teller)?;
     if status == 3 && err.as_slice() == "fedrun: not finished\n".as_bytes() {
-        written(rt, alloc, &told)
+        written(rt, alloc, &watcher)
     } else {
         None
     }

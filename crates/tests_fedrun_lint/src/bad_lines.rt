@@ -2,7 +2,7 @@
 use crate::mistakes::{Mistake, is_told as is_first};
 use std::alloc::{AllocError, Global};
 
-/// A federate in 7 lines, and the beginning of its reaction on the eighth, up to a body line.
+/// A federate in 7 lines, and the beginning of its reaction on the eighth, up to a body line and its quote.
 const FEDERATE: &str = r#"stop = "1 s"
 [[federate]]
 name = "a"
@@ -10,7 +10,7 @@ inputs = ["x"]
 outputs = ["y"]
 actions = ["act"]
 state = [{ name = "n", value = 0 }]
-reaction = [{ triggers = ["x"], body = [""#;
+reaction = [{ triggers = ["x"], body = ["#;
 
 /// What is told of each line, in front of it.
 const TOLD: &str = "fed.toml:8: wrong: 20 BadLine a 1 1: ";
@@ -21,6 +21,8 @@ const LINES: &[Mistake] = &[
     ("out.y=n", "\"out.y=n\": out.y=n stands without spaces: "),
     ("n = n +1", "\"n = n +1\": +1 stands without spaces: "),
     ("n += 1", "\"n += 1\": += is no form: "),
+    ("n -= 1", "\"n -= 1\": -= is no form: write n = n - "),
+    ("n *= 2", "\"n *= 2\": *= is no form: write n = n * "),
     (
         "n++",
         "\"n++\": n++ stands without spaces: = and operators have one on either side, ",
@@ -42,6 +44,30 @@ const LINES: &[Mistake] = &[
     (
         "n = n and 1",
         "\"n = n and 1\": and is no operator: of values that are 0 or 1 ",
+    ),
+    (
+        "n = n <= 1",
+        "\"n = n <= 1\": <= is no operator: A <= B is B < A, and that == 0 ",
+    ),
+    (
+        "n = n != 1",
+        "\"n = n != 1\": != is no operator: A != B is A == B, and that == 0 ",
+    ),
+    (
+        "n = n % 2",
+        "\"n = n % 2\": % is no operator here: sources divide, ",
+    ),
+    (
+        "n = n & 1",
+        "\"n = n & 1\": & is no operator: of values that are 0 or 1 it is A * ",
+    ),
+    (
+        "n = n or 1",
+        "\"n = n or 1\": or is no operator: of values that are 0 or 1 it is A max ",
+    ),
+    (
+        "n = n | 1",
+        "\"n = n | 1\": | is no operator: of values that are 0 or 1 it is A max ",
     ),
     (
         "n = n ^ 1",
@@ -254,18 +280,45 @@ const LINES: &[Mistake] = &[
     ),
 ];
 
-// The rest of a file behind such a line, and the line that is told, up to what follows.
-fn made(alloc: Global, line: &str, told: &str) -> Result<(String, String), AllocError> {
-    let mut back = String::from_str(alloc, line)?;
-    back.push_str("\"] }]\n")?;
+/// Quotes, lines with tabs in these, and what is told of each: in single quotes a backslash stands for itself.
+const TABS: &[(&str, &str, &str)] = &[
+    (
+        "'",
+        "n = n\\t+ 1",
+        "\"n = n\\t+ 1\": write X = A, X = A OP B, ",
+    ),
+    ("'", "n = n\t+ 1", "a tab parts nothing: "),
+    (
+        "\"",
+        "n = n\\t+ 1",
+        "\"n = n\\t+ 1\": a tab parts nothing: ",
+    ),
+    (
+        "\"",
+        "n = n\\\\t+ 1",
+        "\"n = n\\\\t+ 1\": write X = A, X = A OP B, ",
+    ),
+];
+
+// The rest of a file from such a line in these quotes on, and the line that is told, up to what follows.
+fn made(
+    alloc: Global,
+    quote: &str,
+    line: &str,
+    told: &str,
+) -> Result<(String, String), AllocError> {
+    let mut back = String::from_str(alloc, quote)?;
+    back.push_str(line)?;
+    back.push_str(quote)?;
+    back.push_str("] }]\n")?;
     let mut whole = String::from_str(alloc, TOLD)?;
     whole.push_str(told)?;
     Ok((back, whole))
 }
 
-// Whether this is told of a line.
-fn is_told(alloc: Global, line: &str, told: &str) -> bool {
-    match made(alloc, line, told) {
+// Whether this is told of a line in these quotes.
+fn is_told(alloc: Global, quote: &str, line: &str, told: &str) -> bool {
+    match made(alloc, quote, line, told) {
         Ok((back, whole)) => is_first(alloc, FEDERATE, back.as_str(), whole.as_str()),
         Err(_) => false,
     }
@@ -274,6 +327,13 @@ fn is_told(alloc: Global, line: &str, told: &str) -> bool {
 #[test]
 fn tells_what_in_a_line_isnt_understood(rt: HostRuntime) {
     for (line, told) in LINES {
-        assert!(rt; is_told(rt.alloc(), line, told), "{line}");
+        assert!(rt; is_told(rt.alloc(), "\"", line, told), "{line}");
+    }
+}
+
+#[test]
+fn takes_a_backslash_as_its_quotes_do(rt: HostRuntime) {
+    for (quote, line, told) in TABS {
+        assert!(rt; is_told(rt.alloc(), quote, line, told), "{line}");
     }
 }

@@ -16,7 +16,7 @@ pub(crate) fn printed(
     federation: Option<&str>,
     inputs: Option<&str>,
 ) -> Option<String> {
-    printed_with(alloc, federation, inputs, &None)
+    printed_with(alloc, federation, inputs, None)
 }
 
 /// The same, and of a schedule.
@@ -24,7 +24,7 @@ pub(crate) fn printed_with(
     alloc: Global,
     federation: Option<&str>,
     inputs: Option<&str>,
-    schedule: &Option<NamedFile<'_>>,
+    schedule: Option<NamedFile<'_>>,
 ) -> Option<String> {
     let federation = NamedFile {
         name: "fed.toml",

@@ -29,7 +29,7 @@ fn told(
         name: "s",
         bytes: schedule,
     });
-    printed_with(alloc, federation, Some(inputs), &schedule)
+    printed_with(alloc, federation, Some(inputs), schedule)
 }
 
 // Whether this is printed of them.

@@ -79,7 +79,7 @@ fn attempt_all<R: Machine, D: Dial<T, C>, T: Transport, C: Drop, M: Meanwhile>(
             process.heard.hear();
         }
         let is_in_vain = dial.dial(rt, rt.alloc()).is_none();
-        let fault = process.heard.last_fault();
+        let fault = process.heard.last_fault(rt);
         if is_in_vain && fault == Some(NOBODY) && !process.ending.is_set() {
             *time = machine.time();
         }
@@ -119,7 +119,7 @@ fn is_over<R: Host + Net<Stream = TcpStream, Listener = TcpListener>>(
     let process = &meeting.process;
     process.ending.set();
     let is_in_vain = process.is_in_vain(rt, meeting.alloc, meeting.host);
-    let is_unmade = process.heard.last_fault().is_none() && meeting.listener.accept().is_err();
+    let is_unmade = process.heard.last_fault(rt).is_none() && meeting.listener.accept().is_err();
     Some(is_in_vain && is_unmade)
 }
 
@@ -139,7 +139,7 @@ fn is_forgotten<R: Host + Net<Stream = TcpStream, Listener = TcpListener>>(
     let has_failed = process.is_refused(rt, alloc, nobody, NOBODY, false);
     let host = host_of(entrance.address, 0)?;
     let is_connected = !process.is_in_vain(rt, alloc, host);
-    Some(has_failed && is_connected && process.heard.last_fault().is_none())
+    Some(has_failed && is_connected && process.heard.last_fault(rt).is_none())
 }
 
 #[test]

@@ -331,7 +331,7 @@ pub fn is_let_in<R: Host + Net<Stream = TcpStream, Listener = TcpListener>>(
     });
     let heard = (process.heard.count(), entrance.coordinator.heard.count());
     let is_heard = heard == (before.0.saturating_add(1), before.1.saturating_add(2));
-    let goes_on = process.heard.last_fault().is_none() && !process.ending.is_set();
+    let goes_on = process.heard.last_fault(rt).is_none() && !process.ending.is_set();
     Some(are_both == Some(true) && is_heard && goes_on && is_empty(rt, entrance))
 }
 

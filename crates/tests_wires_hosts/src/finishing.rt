@@ -142,7 +142,7 @@ fn hears_nothing<R: Host + Net<Stream = TcpStream, Listener = TcpListener>>(
     entrance.coordinator.heard.give_up();
     let no_more = gets_no_more(rt, entrance);
     let is_in_vain = process.is_in_vain(rt, entrance.alloc, host);
-    let fault = process.heard.last_fault();
+    let fault = process.heard.last_fault(rt);
     let is_untold = matches!(
         fault,
         Some(DialFault::NotConnected(_) | DialFault::NoAnswer)

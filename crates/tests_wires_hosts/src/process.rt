@@ -9,7 +9,7 @@ use std::time::{Clock, Duration};
 use std::{io, thread};
 use wires_hosts::{
     Barrier, DialFault, Failure, FederateHost, Happened, Happening, Heard, HostDial,
-    LastConnection, Patience, Teller, Told, Unkept,
+    LastConnection, Patience, Teller, Told, Unkept, Watcher,
 };
 use wires_transports::{Dial, Ending};
 
@@ -153,7 +153,7 @@ impl Process {
 
     /// The coordinator's of this many federates.
     pub fn of(alloc: Global, federates: usize) -> Option<Process> {
-        let (teller, told) = Teller::watched(&Still, alloc).ok()?;
+        let (teller, Watcher { told, .. }) = Teller::watched(&Still, alloc).ok()?;
         Some(Process {
             heard: Heard::watched(alloc, federates, teller).ok()?,
             told,
@@ -202,7 +202,7 @@ impl Process {
     ) -> bool {
         let told = told_of(&host, fault, ends);
         self.is_in_vain(rt, alloc, host)
-            && self.heard.last_fault() == Some(fault)
+            && self.heard.last_fault(rt) == Some(fault)
             && self.ending.is_set() == ends
             && told_by_now(rt, &self.told) == told
     }

@@ -16,6 +16,11 @@ use wires_transports::{Acceptor, Ending};
 pub trait Meanwhile: Drop {
     /// What happens at this time, in ms since the machine began.
     fn at(&self, ms: u64);
+
+    /// For how long the process is stopped then, in ms. Nothing happens meanwhile.
+    fn stopped_ms(&self, _ms: u64) -> u64 {
+        0
+    }
 }
 
 /// Nothing.
@@ -93,10 +98,13 @@ impl<'a, R, S, M: Meanwhile> Clock for Simulated<'a, R, S, M> {
 }
 
 impl<'a, R, S, M: Meanwhile> Simulated<'a, R, S, M> {
-    // A millisecond goes by.
+    // A millisecond goes by, or so much more as the process is stopped then.
     fn go_on(&self) {
         let before = self.time.fetch_add(1, Ordering::SeqCst);
-        self.meanwhile.at(before.saturating_add(1));
+        let now = before.saturating_add(1);
+        self.meanwhile.at(now);
+        self.time
+            .fetch_add(self.meanwhile.stopped_ms(now), Ordering::SeqCst);
     }
 }
 

@@ -12,7 +12,7 @@ use tag::{FiniteTag, Time};
 use wires::Work;
 use wires_hosts::{
     Awaited, GivenUp, Happening, Heard, HowFar, Look, NoBarrier, Patience, Reached, Standing,
-    Teller, Told, Watching,
+    Teller, Told, Watcher, Watching,
 };
 use wires_transports::Ending;
 
@@ -26,6 +26,8 @@ struct Course<'a> {
     completions: &'a [(u64, u64)],
     /// When the run is to end, in ms.
     end_ms: u64,
+    /// When its process is stopped, and for how long, in ms.
+    stop_ms: (u64, u64),
     /// The second in which they completed one last; 0 where they didn't.
     seconds: &'a AtomicU64,
 }
@@ -50,6 +52,14 @@ impl<'a> Meanwhile for Course<'a> {
             }
         }
     }
+
+    fn stopped_ms(&self, ms: u64) -> u64 {
+        if ms == self.stop_ms.0 {
+            self.stop_ms.1
+        } else {
+            0
+        }
+    }
 }
 
 // The tag of so many ns.
@@ -72,13 +82,21 @@ fn reached(seconds: u64, unacked: usize) -> Reached {
 struct Reads<'a> {
     seconds: &'a AtomicU64,
     unacked: usize,
+    /// Whether that one completes its first tag, the one of the first second, as others complete that of the 20th.
+    is_late: bool,
     is_federate: bool,
 }
 
 impl<'a> Look for Reads<'a> {
     fn look<R: Wait>(&self, _rt: &R, federate: usize) -> Reached {
-        let unacked = if federate == 1 { self.unacked } else { 0 };
-        reached(self.seconds.load(Ordering::SeqCst), unacked)
+        let seconds = self.seconds.load(Ordering::SeqCst);
+        if federate != 1 {
+            reached(seconds, 0)
+        } else if self.is_late {
+            reached(if seconds < 20 { 0 } else { 1 }, self.unacked)
+        } else {
+            reached(seconds, self.unacked)
+        }
     }
 
     fn stop(&self) -> Option<Time> {
@@ -97,10 +115,12 @@ struct Run<'a> {
     are_connected: bool,
     is_federate: bool,
     unacked: usize,
+    is_late: bool,
     patience_ms: Option<u64>,
     hearings: &'a [(u16, u64, u64)],
     completions: &'a [(u64, u64)],
     end_ms: u64,
+    stop_ms: (u64, u64),
 }
 
 // Has whoever watches this process told of such a run.
@@ -118,6 +138,7 @@ fn run_through<R: Machine>(rt: &R, process: &Process, run: &Run<'_>) -> Option<(
         hearings: run.hearings,
         completions: run.completions,
         end_ms: run.end_ms,
+        stop_ms: run.stop_ms,
         seconds: &seconds,
     };
     let machine = Simulated::new(rt, &Broken, course);
@@ -126,6 +147,7 @@ fn run_through<R: Machine>(rt: &R, process: &Process, run: &Run<'_>) -> Option<(
         look: Reads {
             seconds: &seconds,
             unacked: run.unacked,
+            is_late: run.is_late,
             is_federate: run.is_federate,
         },
     };
@@ -178,10 +200,12 @@ fn is_silence_told<R: Machine>(rt: &R) -> Option<bool> {
         are_connected: false,
         is_federate: false,
         unacked: 0,
+        is_late: false,
         patience_ms: Some(12_000),
         hearings: &[(0, 7000, 7000)],
         completions: &[],
         end_ms: 0,
+        stop_ms: (0, 0),
     };
     are_told(
         rt,
@@ -235,10 +259,12 @@ fn is_missing_told<R: Machine>(rt: &R) -> Option<bool> {
         are_connected: true,
         is_federate: false,
         unacked: 3,
+        is_late: false,
         patience_ms: None,
         hearings: &[(0, 1000, 13_000), (1, 1000, 1000), (1, 12_000, 13_000)],
         completions: &[(1000, 13_000)],
         end_ms: 13_000,
+        stop_ms: (0, 0),
     };
     are_told(
         rt,
@@ -295,10 +321,12 @@ fn counts_of_many<R: Machine>(rt: &R) -> Option<[usize; 4]> {
         are_connected: false,
         is_federate: false,
         unacked: 0,
+        is_late: false,
         patience_ms: None,
         hearings: &hearings,
         completions: &[],
         end_ms: 8000,
+        stop_ms: (0, 0),
     };
     let process = Process::of(rt.alloc(), run.federates)?;
     run_through(rt, &process, &run)?;
@@ -318,10 +346,12 @@ fn is_how_far_told<R: Machine>(rt: &R) -> Option<bool> {
         are_connected: true,
         is_federate: false,
         unacked: 0,
+        is_late: false,
         patience_ms: None,
         hearings: &[(0, 0, 130_000), (1, 0, 130_000), (2, 0, 130_000)],
         completions: &[(1000, 19_000), (70_000, 130_000)],
         end_ms: 130_000,
+        stop_ms: (0, 0),
     };
     are_told(
         rt,
@@ -340,6 +370,62 @@ fn tells_how_far_a_run_is_and_whether_it_goes_on(rt: HostRuntime) {
     assert_eq!(rt; is_how_far_told(&rt), Some(true));
 }
 
+// A coordinator of two federates that are connected, of which one completes its first tag after 20 s, an early one.
+fn is_earlier_told<R: Machine>(rt: &R) -> Option<bool> {
+    let run = Run {
+        federates: 2,
+        are_connected: true,
+        is_federate: false,
+        unacked: 0,
+        is_late: true,
+        patience_ms: None,
+        hearings: &[(0, 1000, 31_000)],
+        completions: &[(1000, 31_000)],
+        end_ms: 31_000,
+        stop_ms: (0, 0),
+    };
+    are_told(
+        rt,
+        &run,
+        &[
+            Happening::Runs(how_far(9, true)?, awaiting(2, 2)),
+            Happening::Runs(how_far(1, true)?, awaiting(2, 2)),
+        ],
+    )
+}
+
+#[test]
+fn tells_the_least_tag_of_those_that_have_completed_one(rt: HostRuntime) {
+    assert_eq!(rt; is_earlier_told(&rt), Some(true));
+}
+
+// A coordinator of two federates that are connected, of which one acknowledges nothing: both are heard and complete a tag
+// each second, but for a minute, in which its process is stopped.
+fn is_stop_left_out<R: Machine>(rt: &R) -> Option<bool> {
+    let run = Run {
+        federates: 2,
+        are_connected: true,
+        is_federate: false,
+        unacked: 3,
+        is_late: false,
+        patience_ms: None,
+        hearings: &[(0, 1000, 70_000), (1, 1000, 70_000)],
+        completions: &[(1000, 70_000)],
+        end_ms: 69_000,
+        stop_ms: (3500, 60_000),
+    };
+    are_told(
+        rt,
+        &run,
+        &[Happening::Runs(how_far(3, true)?, awaiting(2, 2))],
+    )
+}
+
+#[test]
+fn tells_of_no_silence_while_its_own_process_was_stopped(rt: HostRuntime) {
+    assert_eq!(rt; is_stop_left_out(&rt), Some(true));
+}
+
 // A federate that is connected: it hears the coordinator after a second, and each second from the eighth on, and
 // completes a tag after 14 s.
 fn is_coordinator_told<R: Machine>(rt: &R) -> Option<bool> {
@@ -348,10 +434,12 @@ fn is_coordinator_told<R: Machine>(rt: &R) -> Option<bool> {
         are_connected: true,
         is_federate: true,
         unacked: 0,
+        is_late: false,
         patience_ms: None,
         hearings: &[(0, 1000, 1000), (0, 8000, 15_000)],
         completions: &[(14_000, 14_000)],
         end_ms: 15_000,
+        stop_ms: (0, 0),
     };
     are_told(
         rt,
@@ -380,7 +468,7 @@ fn looked<R: Machine>(
 ) -> Option<(usize, Option<usize>)> {
     let source = Broken;
     let machine = Simulated::new(rt, &source, Nothing);
-    let (teller, told) = Teller::watched(&machine, alloc).ok()?;
+    let (teller, Watcher { told, .. }) = Teller::watched(&machine, alloc).ok()?;
     let teller = if are_wanted {
         teller.with_looks()
     } else {
@@ -401,6 +489,7 @@ fn looked<R: Machine>(
         look: Reads {
             seconds: &seconds,
             unacked: 0,
+            is_late: false,
             is_federate: false,
         },
     };

@@ -15,7 +15,7 @@ use wires_greeting::Greeting;
 use wires_hosts::teller::MOST_WAITING;
 use wires_hosts::{
     Awaited, Disconnection, GivenUp, Happening, HostAddress, HostDial, Loss, NotLetIn, Replaced,
-    Teller, Told,
+    Teller, Told, Watcher,
 };
 use wires_transports::Dial;
 
@@ -266,22 +266,28 @@ fn tells_what_happens_to_a_federate(rt: HostRuntime) {
 }
 
 // How much was left out, as it is told with what has room: of the first and the last that have, where nobody takes any
-// until there is no room, and then one is taken. None where it isn't as many as there is room for.
-fn left_out<R: Host>(rt: &R, alloc: Global) -> Option<[u64; 2]> {
-    let (teller, told) = Teller::watched(rt, alloc).ok()?;
-    for _ in 0..MOST_WAITING + 3 {
+// until there is no room, and then one is taken; and how much behind the last. Two tell, of whom either is left out at
+// both times. None where it isn't as many as there is room for.
+fn left_out<R: Host>(rt: &R, alloc: Global) -> Option<[u64; 3]> {
+    let (teller, watcher) = Teller::watched(rt, alloc).ok()?;
+    let told = &watcher.told;
+    let other = teller.another();
+    for _ in 0..MOST_WAITING + 2 {
         teller.tell(rt, rt, Happening::Finished);
     }
-    let first = next_told(rt, &told)?;
+    other.tell(rt, rt, Happening::Finished);
+    let first = next_told(rt, told)?;
     teller.tell(rt, rt, Happening::GaveUp(GivenUp::Silence));
+    other.tell(rt, rt, Happening::Finished);
+    teller.tell(rt, rt, Happening::Finished);
     for _ in 1..MOST_WAITING {
-        if !is_told(rt, &told, Happening::Finished) {
+        if !is_told(rt, told, Happening::Finished) {
             return None;
         }
     }
-    let last = next_told(rt, &told)?;
+    let last = next_told(rt, told)?;
     if last.what == Happening::GaveUp(GivenUp::Silence) && told.try_recv(rt).is_err() {
-        Some([first.left_out, last.left_out])
+        Some([first.left_out, last.left_out, watcher.left_out()])
     } else {
         None
     }
@@ -290,13 +296,13 @@ fn left_out<R: Host>(rt: &R, alloc: Global) -> Option<[u64; 2]> {
 // Whoever tells waits for nobody: else this wouldn't end.
 #[test]
 fn waits_for_nobody_and_counts_what_is_left_out(rt: HostRuntime) {
-    assert_eq!(rt; left_out(&rt, rt.alloc()), Some([0, 3]));
+    assert_eq!(rt; left_out(&rt, rt.alloc()), Some([0, 3, 2]));
 }
 
 // Whether more may be told while one of those is there who could, nothing once all are gone, and none is watched that
 // was made of one that isn't.
 fn are_over<R: Host>(rt: &R, alloc: Global) -> Option<[bool; 3]> {
-    let (teller, told) = Teller::watched(rt, alloc).ok()?;
+    let (teller, Watcher { told, .. }) = Teller::watched(rt, alloc).ok()?;
     let other = teller.another();
     drop(teller);
     let is_open = matches!(told.try_recv(rt), Err(TryRecvError::Empty));

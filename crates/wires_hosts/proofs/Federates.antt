@@ -9,7 +9,7 @@ use Rattle.std.proofs.lemmas.Iterator.Adapters.{position_from-zero}
 use Rattle.tag.specs.LogicalTime.{LogicalTime, is_before}
 use Rattle.tag.proofs.Order.{before_irreflexive}
 use Rattle.wires_hosts.specs.declared.awaited.Awaited.{Awaited}
-use Rattle.wires_hosts.specs.declared.overview.Seen.{Seen}
+use Rattle.wires_hosts.specs.declared.seen.Seen.{Seen}
 use Rattle.wires_hosts.specs.Awaited.{counted, awaited_of, with_one}
 use Rattle.wires_hosts.specs.Standing.{IsLeast, least_of}
 use Rattle.wires_hosts.specs.Overview.{are_there, completed_by}

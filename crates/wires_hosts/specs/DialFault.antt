@@ -1,10 +1,9 @@
 -- Why an attempt to connect came to nothing, and whether another one makes sense.
-use Rattle.std.specs.Prelude.{ℕ, Bool, true, false, Option, Some, None}
+use Rattle.std.specs.Prelude.{Bool, true, false, Option, Some, None}
 use Rattle.wires_greeting.specs.declared.answer.Answer.{Answer}
 use Rattle.wires_greeting.specs.declared.answer.Answer.TheVariants as answers
 use Rattle.wires_greeting.specs.declared.federate_side.FederateState.{FederateState}
 use Rattle.wires_greeting.specs.declared.federate_side.FederateState.TheVariants as states
-use Rattle.wires_hosts.specs.declared.unreached.Unreached.TheVariants as why
 use Rattle.wires_hosts.specs.declared.dial_fault.DialFault.{DialFault}
 use Rattle.wires_hosts.specs.declared.dial_fault.DialFault.TheVariants.{NotConnected, NoRandom, NoAnswer, NotProved}
 use Rattle.wires_hosts.specs.declared.dial_fault.DialFault.TheVariants.{OtherFiles, NoSuchFederate, Finished}
@@ -35,19 +34,3 @@ is_final OtherFiles = true
 is_final NoSuchFederate = true
 is_final Finished = true
 is_final NotAllowed = true
-
--- the number by which a fault, or none, is noted
-abbrev pub note : Option DialFault → ℕ
-note None = 0
-note (Some (NotConnected why.Other)) = 1
-note (Some NoRandom) = 2
-note (Some NoAnswer) = 3
-note (Some NotProved) = 4
-note (Some OtherFiles) = 5
-note (Some NoSuchFederate) = 6
-note (Some Finished) = 7
-note (Some NotAllowed) = 8
-note (Some (NotConnected why.NoAddress)) = 9
-note (Some (NotConnected why.Refused)) = 10
-note (Some (NotConnected why.TimeOver)) = 11
-note (Some (NotConnected why.NoWay)) = 12

@@ -24,5 +24,9 @@ pub mod Attendance
 pub mod Awaited
 -- For whom a run may wait, how long it has waited for whom, and how far it is.
 pub mod Standing
+-- What was seen of a federate by looks at a node, and what there is to tell of it.
+pub mod Seen
+-- Since when a run stands still, and what was told of that.
+pub mod Stillness
 -- What a coordinator saw of its federates, or a federate of itself.
 pub mod Overview

@@ -1,7 +1,7 @@
 -- What a coordinator saw of its federates, or a federate of itself.
 use Rattle.std.specs.Prelude.{Bool, List, map, Option, is_none}
 use Rattle.tag.specs.LogicalTime.{LogicalTime}
-use Rattle.wires_hosts.specs.declared.overview.Seen.{Seen}
+use Rattle.wires_hosts.specs.declared.seen.Seen.{Seen}
 
 -- whether each is there: the run doesn't wait for it
 abbrev pub are_there : List Seen → List Bool

@@ -3,7 +3,7 @@ use Rattle.std.specs.Prelude.{ℕ, ◌+◌, ◌^◌, ◌-◌, ◌/◌, min, nat_
 use Rattle.wires_hosts.specs.declared.silence.Silence.{Silence}
 use Rattle.wires_hosts.specs.declared.silence.SilenceTold.{SilenceTold}
 use Rattle.wires_hosts.specs.declared.silence.SilenceTold.TheVariants.{Lasts, IsOver}
-use Rattle.wires_hosts.specs.declared.times.TheConstants.{PATIENCE_LOOK_MS, STILL_MS}
+use Rattle.wires_hosts.specs.declared.times.TheConstants.{PATIENCE_LOOK_MS, LATE_LOOK_MS, STILL_MS}
 
 -- the silence after one more look, with how much was heard in all: none where that is more than before, and else
 -- longer by the time between two looks
@@ -20,3 +20,12 @@ told_of_silence told_ms quiet_ms =
     if nat_lt quiet_ms told_ms then Some IsOver
     else (if nat_le STILL_MS quiet_ms
     then (if nat_le told_ms (quiet_ms / 2) then Some Lasts else None) else None)
+
+-- how many of the ms between two looks count: all; but of more than a second as many as between two others, since the
+-- process was stopped meanwhile, and what came is heard behind that
+abbrev pub counted_ms : (lapse_ms : ℕ) → ℕ
+counted_ms lapse_ms = if nat_lt LATE_LOOK_MS lapse_ms then PATIENCE_LOOK_MS else lapse_ms
+
+-- a time that is so many ms later, as far as a number of 64 bits goes
+abbrev pub later_ms : (time millis : ℕ) → ℕ
+later_ms time millis = min (2 ^ 64 - 1) (time + millis)

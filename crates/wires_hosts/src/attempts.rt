@@ -1,12 +1,12 @@
 //! Which of many attempts to connect are told that come to nothing or to a moment's connection, at either side.
-ghost use Rattle.std.specs.Prelude.{◌≡◌, Some, slice_index, slice_set};
+ghost use Rattle.std.specs.Prelude.{◌≡◌};
 ghost use Rattle.std.specs.Int.{is_power_of_two};
 ghost use Rattle.wires_hosts.specs.Attempts as definition;
-ghost use Rattle.wires_hosts.specs.DialFault.{note};
 
-use crate::dial_fault::{DialFault, NOTES};
+use crate::dial_fault::DialFault;
 use crate::happening::NotLetIn;
 use crate::times::QUICK_MS;
+use crate::unreached::Unreached;
 use std::net::IpAddr;
 use std::sync::{Mutex, Wait};
 
@@ -14,28 +14,27 @@ use std::sync::{Mutex, Wait};
 /// turns, as of a machine that is away, have a row each.
 #[derive(Drop)]
 pub struct Attempts {
-    // By `DialFault::note`.
-    counts: Mutex<[u64; NOTES]>,
+    counts: Mutex<FaultCounts>,
 }
 
 impl Attempts {
     /// None was made.
     pub fn new() -> Attempts {
         Attempts {
-            counts: Mutex::new([0; NOTES]),
+            counts: Mutex::new(FaultCounts::none()),
         }
     }
 
     /// One more came to nothing, for this. How many did by now, for the same.
     pub fn fail<R: Wait>(&self, rt: &R, fault: DialFault) -> u64 {
         let mut counts = self.counts.lock(rt);
-        counted(&mut *counts, fault)
+        counts.add(fault)
     }
 
     /// One came to a connection.
     pub fn succeed<R: Wait>(&self, rt: &R) {
         let mut counts = self.counts.lock(rt);
-        *counts = [0; NOTES];
+        *counts = FaultCounts::none();
     }
 }
 
@@ -127,15 +126,73 @@ pub fn is_told(count: u64) -> bool
     count.is_power_of_two()
 }
 
-// One more attempt came to nothing, for this. How many did by now, for the same.
-fn counted(counts: &mut [u64; NOTES], fault: DialFault) -> u64
-    ensures one_more { result ≡ definition.with_one (slice_index counts.old (note (Some fault))) }
-    ensures stored { counts.new ≡ slice_set counts.old (note (Some fault)) result }
+// How many attempts came to nothing for each reason.
+#[derive(Clone, Copy)]
+struct FaultCounts {
+    no_address: u64,
+    refused: u64,
+    time_over: u64,
+    no_way: u64,
+    unconnected: u64,
+    no_random: u64,
+    no_answer: u64,
+    not_proved: u64,
+    other_files: u64,
+    no_such_federate: u64,
+    finished: u64,
+    not_allowed: u64,
+}
+
+impl FaultCounts {
+    // None did.
+    fn none() -> FaultCounts
+        ensures { result ≡ definition.no_faults }
+    {
+        FaultCounts {
+            no_address: 0,
+            refused: 0,
+            time_over: 0,
+            no_way: 0,
+            unconnected: 0,
+            no_random: 0,
+            no_answer: 0,
+            not_proved: 0,
+            other_files: 0,
+            no_such_federate: 0,
+            finished: 0,
+            not_allowed: 0,
+        }
+    }
+
+    // One more did, for this. How many did by now, for the same.
+    fn add(&mut self, fault: DialFault) -> u64
+        ensures one_more { result ≡ definition.with_one (definition.count_of fault self.old) }
+        ensures stored { self.new ≡ definition.with_fault fault self.old }
+    {
+        match fault {
+            DialFault::NotConnected(Unreached::NoAddress) => add_one(&mut self.no_address),
+            DialFault::NotConnected(Unreached::Refused) => add_one(&mut self.refused),
+            DialFault::NotConnected(Unreached::TimeOver) => add_one(&mut self.time_over),
+            DialFault::NotConnected(Unreached::NoWay) => add_one(&mut self.no_way),
+            DialFault::NotConnected(Unreached::Other) => add_one(&mut self.unconnected),
+            DialFault::NoRandom => add_one(&mut self.no_random),
+            DialFault::NoAnswer => add_one(&mut self.no_answer),
+            DialFault::NotProved => add_one(&mut self.not_proved),
+            DialFault::OtherFiles => add_one(&mut self.other_files),
+            DialFault::NoSuchFederate => add_one(&mut self.no_such_federate),
+            DialFault::Finished => add_one(&mut self.finished),
+            DialFault::NotAllowed => add_one(&mut self.not_allowed),
+        }
+    }
+}
+
+// One more is counted. How many are by now.
+fn add_one(count: &mut u64) -> u64
+    ensures stored { count.new ≡ definition.with_one count.old }
+    ensures told { result ≡ count.new }
 {
-    let place = DialFault::note(Some(fault)) as usize;
-    let count = counts[place].saturating_add(1);
-    counts[place] = count;
-    count
+    *count = count.saturating_add(1);
+    *count
 }
 
 /// How many connections in a row stood for a moment alone, where the last stood for so many ms and so many did before

@@ -1,4 +1,4 @@
-ghost use Rattle.std.specs.Prelude.{◌≡◌, ◌<◌, None, Some};
+ghost use Rattle.std.specs.Prelude.{◌≡◌};
 ghost use Rattle.wires_hosts.specs.DialFault as definition;
 
 use crate::unreached::Unreached;
@@ -25,9 +25,6 @@ pub enum DialFault {
     /// The coordinator lets this federate take part no more.
     NotAllowed,
 }
-
-/// How many numbers there are by which faults, or none, are noted.
-pub(crate) const NOTES: usize = 13;
 
 impl DialFault {
     ghost use Rattle.std.specs.Prelude.{Option};
@@ -71,49 +68,6 @@ impl DialFault {
             | DialFault::NoSuchFederate
             | DialFault::Finished
             | DialFault::NotAllowed => true,
-        }
-    }
-
-    /// The number by which a fault, or none, is noted.
-    pub(crate) fn note(fault: Option<DialFault>) -> u64
-        ensures number { result ≡ definition.note fault }
-        ensures few { result < NOTES }
-    {
-        match fault {
-            None => 0,
-            Some(DialFault::NotConnected(Unreached::Other)) => 1,
-            Some(DialFault::NoRandom) => 2,
-            Some(DialFault::NoAnswer) => 3,
-            Some(DialFault::NotProved) => 4,
-            Some(DialFault::OtherFiles) => 5,
-            Some(DialFault::NoSuchFederate) => 6,
-            Some(DialFault::Finished) => 7,
-            Some(DialFault::NotAllowed) => 8,
-            Some(DialFault::NotConnected(Unreached::NoAddress)) => 9,
-            Some(DialFault::NotConnected(Unreached::Refused)) => 10,
-            Some(DialFault::NotConnected(Unreached::TimeOver)) => 11,
-            Some(DialFault::NotConnected(Unreached::NoWay)) => 12,
-        }
-    }
-
-    /// The fault that was noted by a number, if one was.
-    pub(crate) fn noted(note: u64) -> Option<DialFault>
-        ensures { (fault : Option DialFault) → note ≡ definition.note fault → result ≡ fault }
-    {
-        match note {
-            1 => Some(DialFault::NotConnected(Unreached::Other)),
-            2 => Some(DialFault::NoRandom),
-            3 => Some(DialFault::NoAnswer),
-            4 => Some(DialFault::NotProved),
-            5 => Some(DialFault::OtherFiles),
-            6 => Some(DialFault::NoSuchFederate),
-            7 => Some(DialFault::Finished),
-            8 => Some(DialFault::NotAllowed),
-            9 => Some(DialFault::NotConnected(Unreached::NoAddress)),
-            10 => Some(DialFault::NotConnected(Unreached::Refused)),
-            11 => Some(DialFault::NotConnected(Unreached::TimeOver)),
-            12 => Some(DialFault::NotConnected(Unreached::NoWay)),
-            _ => None,
         }
     }
 }

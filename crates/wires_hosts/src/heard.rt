@@ -3,8 +3,8 @@ use crate::dial_fault::DialFault;
 use crate::happening::Happening;
 use crate::teller::{Teller, Told};
 use std::alloc::{AllocError, Global};
-use std::sync::Wait;
 use std::sync::atomic::{AtomicBool, AtomicU64, Ordering};
+use std::sync::{Mutex, Wait};
 use std::time::Clock;
 use wires_transports::Ending;
 
@@ -12,8 +12,8 @@ use wires_transports::Ending;
 #[derive(Drop)]
 pub struct Heard {
     count: AtomicU64,
-    // By `DialFault::note`.
-    fault: AtomicU64,
+    // Why the last attempt to connect came to nothing, if it did.
+    fault: Mutex<Option<DialFault>>,
     gave_up: AtomicBool,
     // Whether a federate's own connection was closed at the other end, where it has ended.
     was_closed: AtomicBool,
@@ -72,6 +72,21 @@ impl HeardOf {
             Some(0)
         }
     }
+
+    // What was noted up to the first time counts as noted so many ms later.
+    fn leave_out(&self, until_ms: u64, millis: u64) {
+        make_later(&self.since_ms, until_ms, millis);
+        make_later(&self.heard_ms, until_ms, millis);
+    }
+}
+
+// Makes a time that isn't behind the first one later by so many ms. What another thread notes meanwhile stays.
+fn make_later(time: &AtomicU64, until_ms: u64, millis: u64) {
+    let before = time.load(Ordering::SeqCst);
+    if before <= until_ms {
+        let after = before.saturating_add(millis);
+        let _ = time.compare_exchange(before, after, Ordering::SeqCst, Ordering::SeqCst);
+    }
 }
 
 impl Heard {
@@ -87,7 +102,7 @@ impl Heard {
         all.resize_with(federates, || HeardOf::new())?;
         Ok(Heard {
             count: AtomicU64::new(0),
-            fault: AtomicU64::new(DialFault::note(None)),
+            fault: Mutex::new(None),
             gave_up: AtomicBool::new(false),
             was_closed: AtomicBool::new(false),
             federates: all,
@@ -138,13 +153,14 @@ impl Heard {
     }
 
     /// The last attempt to connect came to nothing, for this; or to a connection, by None.
-    pub(crate) fn note_attempt(&self, fault: Option<DialFault>) {
-        self.fault.store(DialFault::note(fault), Ordering::SeqCst);
+    pub(crate) fn note_attempt<R: Wait>(&self, rt: &R, fault: Option<DialFault>) {
+        let mut last = self.fault.lock(rt);
+        *last = fault;
     }
 
     /// Why the last attempt to connect came to nothing; None where it didn't, or none was made.
-    pub fn last_fault(&self) -> Option<DialFault> {
-        DialFault::noted(self.fault.load(Ordering::SeqCst))
+    pub fn last_fault<R: Wait>(&self, rt: &R) -> Option<DialFault> {
+        *self.fault.lock(rt)
     }
 
     /// The run is to end though it isn't finished. Whoever ends such a run says this first.
@@ -211,8 +227,9 @@ impl Heard {
     /// From this time on, in ms since the node began, this federate has a connection, or has none.
     pub fn note_connection(&self, federate: u16, is_connected: bool, since_ms: u64) {
         if let Some(of) = self.federates.get(usize::from(federate)) {
-            of.is_connected.store(is_connected, Ordering::SeqCst);
+            // In this order: whoever sees that it has one reads no time from before that.
             of.since_ms.store(since_ms, Ordering::SeqCst);
+            of.is_connected.store(is_connected, Ordering::SeqCst);
         }
     }
 
@@ -224,7 +241,7 @@ impl Heard {
         }
     }
 
-    /// Since when that is so, in ms since the node began.
+    /// Since when that is so, in ms since the node began. It is read behind that.
     pub(crate) fn since_ms(&self, federate: usize) -> u64 {
         match self.federates.get(federate) {
             Some(of) => of.since_ms.load(Ordering::SeqCst),
@@ -261,6 +278,14 @@ impl Heard {
     pub(crate) fn look(&self, now_ms: u64) {
         for of in self.federates.iter() {
             of.look(now_ms);
+        }
+    }
+
+    /// So many ms behind this time, in ms since the node began, don't count: nothing was heard in them, as the process was
+    /// stopped.
+    pub(crate) fn leave_out(&self, until_ms: u64, millis: u64) {
+        for of in self.federates.iter() {
+            of.leave_out(until_ms, millis);
         }
     }
 

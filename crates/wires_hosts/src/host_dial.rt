@@ -20,7 +20,6 @@ use std::alloc::Global;
 use std::io::Write;
 use std::net::{Net, SocketAddr, TcpListener, TcpStream};
 use std::random::RandomSource;
-use std::sync::atomic::{AtomicBool, AtomicU64, Ordering};
 use std::sync::{Arc, Mutex, Wait};
 use std::thread;
 use std::time::{Clock, Duration};
@@ -62,17 +61,22 @@ pub struct HostDial<
     ending: &'a Ending,
     back_off: BackOff,
     attempts: Attempts,
-    // Where the last attempt went, of the addresses of a host's name.
-    tried: Mutex<Option<SocketAddr>>,
+    // One worker dials: nobody waits for it.
+    state: Mutex<DialState>,
+}
+
+// What is kept from one attempt to the next.
+#[derive(Clone, Copy)]
+struct DialState {
     // Whether an attempt was made.
-    has_begun: AtomicBool,
-    // Whether the last attempt came to a connection whose end wasn't noticed so far.
-    is_connected: AtomicBool,
-    // When that was, in ms since the node began.
-    since_ms: AtomicU64,
+    has_begun: bool,
+    // Where the last one went, of the addresses of a host's name.
+    tried: Option<SocketAddr>,
+    // When it came to a connection whose end wasn't noticed so far, in ms since the node began; None where it didn't.
+    connected_ms: Option<u64>,
     // How many connections in a row stood for a moment alone, and whether it was told that the last of them ended.
-    quick: AtomicU64,
-    is_shown: AtomicBool,
+    quick: u64,
+    is_shown: bool,
 }
 
 // What an attempt came to.
@@ -106,12 +110,13 @@ impl<
             ending,
             back_off: BackOff::new(),
             attempts: Attempts::new(),
-            tried: Mutex::new(None),
-            has_begun: AtomicBool::new(false),
-            is_connected: AtomicBool::new(false),
-            since_ms: AtomicU64::new(0),
-            quick: AtomicU64::new(0),
-            is_shown: AtomicBool::new(true),
+            state: Mutex::new(DialState {
+                has_begun: false,
+                tried: None,
+                connected_ms: None,
+                quick: 0,
+                is_shown: true,
+            }),
         }
     }
 
@@ -122,19 +127,26 @@ impl<
 
     // Tells that the first attempt is made, where this is it.
     fn tell_first<R: Wait>(&self, rt: &R) {
-        if !self.has_begun.swap(true, Ordering::SeqCst) {
+        let mut state = self.state.lock(rt);
+        if !state.has_begun {
+            state.has_begun = true;
             self.tell(rt, Happening::Connects(self.host.address));
         }
     }
 
-    // Tells that the last connection has ended; of many in a row that stood for a moment alone, of ever fewer.
+    // Tells that the last connection has ended, where one had begun: whoever dials has read it to its end. Of many in a
+    // row that stood for a moment alone it tells of ever fewer.
     fn tell_end<R: Wait>(&self, rt: &R) {
+        let mut state = self.state.lock(rt);
+        let Some(connected_ms) = state.connected_ms else {
+            return;
+        };
         let now = self.heard.millis(self.machine);
         self.heard.note_connection(0, false, now);
-        let stood = now.saturating_sub(self.since_ms.load(Ordering::SeqCst));
-        let times = quick_after(stood, self.quick.load(Ordering::SeqCst));
-        self.quick.store(times, Ordering::SeqCst);
-        self.is_shown.store(is_told(times), Ordering::SeqCst);
+        let times = quick_after(now.saturating_sub(connected_ms), state.quick);
+        state.connected_ms = None;
+        state.quick = times;
+        state.is_shown = is_told(times);
         if is_told(times) {
             let disconnection = Disconnection {
                 is_closed: self.heard.was_closed(),
@@ -149,24 +161,24 @@ impl<
 
     // Tells of a connection that leads there, unless nothing was told of the end of the one before.
     fn tell_connection<R: Wait>(&self, rt: &R, found: Option<SocketAddr>) {
+        let mut state = self.state.lock(rt);
         let now = self.heard.millis(self.machine);
         self.heard.note_connection(0, true, now);
-        self.since_ms.store(now, Ordering::SeqCst);
-        self.is_connected.store(true, Ordering::SeqCst);
-        if self.is_shown.load(Ordering::SeqCst) {
+        state.connected_ms = Some(now);
+        if state.is_shown {
             self.tell(rt, Happening::Connected(self.host.address, found));
         }
     }
 
     // An attempt goes there, of the addresses of a host's name.
     fn note_tried<R: Wait>(&self, rt: &R, tried: Option<SocketAddr>) {
-        let mut last = self.tried.lock(rt);
-        *last = tried;
+        let mut state = self.state.lock(rt);
+        state.tried = tried;
     }
 
     // Where the last attempt went.
     fn tried<R: Wait>(&self, rt: &R) -> Option<SocketAddr> {
-        *self.tried.lock(rt)
+        self.state.lock(rt).tried
     }
 
     // Tells of an attempt that came to nothing, unless it was broken off since the run is to end.
@@ -252,10 +264,7 @@ impl<
         rt: &R,
         alloc: Global,
     ) -> Option<Connection<HeardTransport<'a, TcpTransport, B>, TcpCut>> {
-        if self.is_connected.swap(false, Ordering::SeqCst) {
-            // Whoever dials has read the last connection to its end.
-            self.tell_end(rt);
-        }
+        self.tell_end(rt);
         self.tell_first(rt);
         let pause = self.back_off.begin(self.heard.count());
         if !has_paused(self.machine, pause, self.ending) {
@@ -269,13 +278,13 @@ impl<
         };
         match attempt {
             Ok(Attempted { connection, found }) => {
-                self.heard.note_attempt(None);
+                self.heard.note_attempt(rt, None);
                 self.attempts.succeed(rt);
                 self.tell_connection(rt, found);
                 self.noted(rt, connection)
             }
             Err(fault) => {
-                self.heard.note_attempt(Some(fault));
+                self.heard.note_attempt(rt, Some(fault));
                 self.tell_failure(rt, fault);
                 if fault.is_final() {
                     self.ending.set();

@@ -13,8 +13,9 @@
 //! `wires_greeting::Key` alone. Whoever watches is told what happens (`happening`), through a channel for which nobody
 //! waits (`teller`): why a connection isn't let in is `specs/NotLetIn`, how many attempts came to the same
 //! `specs/Attempts`, which connection has ended `specs/Attendance`, who is awaited `specs/Awaited`, for whom a run waits
-//! and how far it is `specs/Standing`, and when it is told that nobody is heard `specs/Silence`. Whoever measures a node
-//! is told its moments the same way (`moment`).
+//! and how far it is `specs/Standing`, when it is told that nobody is heard `specs/Silence`, that one is missing
+//! `specs/Seen`, and that a run stands still `specs/Stillness`. Whoever measures a node is told its moments the same way
+//! (`moment`).
 //!
 //! Begin with `heard` and `barrier`, which one process's threads share, then `host_dial` and `host_acceptor`.
 #![tactic(auto)]
@@ -43,9 +44,11 @@ mod next;
 mod overview;
 pub mod patience;
 mod pending_host;
+mod seen;
 pub mod silence;
 mod source;
 pub mod standing;
+mod stillness;
 pub mod teller;
 pub mod times;
 pub mod unreached;
@@ -67,5 +70,5 @@ pub use moment::{Measured, Moment};
 pub use patience::{Patience, Watching};
 pub use silence::Silence;
 pub use standing::{HowFar, Reached, Standing};
-pub use teller::{Happened, Looked, Teller, Told};
+pub use teller::{Happened, Looked, Teller, Told, Watcher};
 pub use unreached::{Missed, Unreached};

@@ -8,11 +8,13 @@ use crate::awaited::Awaited;
 use crate::happening::Happening;
 use crate::heard::Heard;
 use crate::look::Look;
-use crate::silence::{SilenceTold, told_of_silence};
+use crate::seen::Seen;
+use crate::silence::{SilenceTold, counted_ms};
 use crate::standing::{
     HowFar, Reached, Standing, holds_back, is_going_on, is_how_far_told, least_of, may_be_awaited,
-    missing_ms, unheard_ms,
+    unheard_ms,
 };
+use crate::stillness::Stillness;
 use crate::teller::{Looked, Told};
 use crate::times::{MOVING_MS, STILL_MS, WATCH_LOOK_MS};
 use std::alloc::Global;
@@ -33,95 +35,10 @@ pub(crate) struct Overview<'a, L: Look> {
     // When the look before was, and when federates are read again.
     looked_ms: u64,
     next_ms: u64,
-    // When a tag was completed last, and when one was completed or granted, or the coordinator heard again.
-    completed_ms: u64,
-    granted_ms: u64,
-    // For how long nobody had been heard, and nothing had been granted, when that was told last.
-    still_told_ms: u64,
-    ungranted_told_ms: u64,
-    // Whether it was told that the run stands still, and no tag was completed since.
-    stands: bool,
+    stillness: Stillness,
     // Whether it is to be told how far the run is, and which tag was told last.
     is_due: bool,
     told: Option<FiniteTag>,
-}
-
-// What was seen of a federate.
-#[derive(Clone, Copy)]
-struct Seen {
-    reached: Reached,
-    // Since when the run may wait for it; None where it doesn't.
-    awaited_since_ms: Option<u64>,
-    // How long nothing had come of it at the last look; None where nothing ever had.
-    quiet_ms: Option<u64>,
-    // For how long it had been missing when that was told last; 0 where it wasn't.
-    told_ms: u64,
-    // Whether it had its name when that was told, then or before, and wasn't only one of so many more.
-    is_named: bool,
-}
-
-impl Seen {
-    fn new() -> Seen {
-        Seen {
-            reached: Reached::nothing(),
-            awaited_since_ms: None,
-            quiet_ms: None,
-            told_ms: 0,
-            is_named: false,
-        }
-    }
-
-    // Notes whether the run may wait for it at this time.
-    fn note_awaited(&mut self, is_awaited: bool, now: u64) {
-        let before = self.awaited_since_ms;
-        self.awaited_since_ms = match before {
-            _ if !is_awaited => None,
-            Some(since_ms) => Some(since_ms),
-            None => Some(now),
-        };
-    }
-
-    // What there is to tell of it at this time, where it stands there: that it is missing, by its name where there is room
-    // for that; or that it was heard again, where it was told by its name that it was missing.
-    fn go_on(&mut self, standing: &Standing, now: u64, has_room: bool) -> Option<Happening> {
-        let before = self.quiet_ms;
-        self.quiet_ms = standing.quiet_ms;
-        let missing = match self.awaited_since_ms {
-            Some(since_ms) => missing_ms(standing, now.saturating_sub(since_ms)),
-            None => 0,
-        };
-        let told = self.told_ms;
-        let was_named = self.is_named;
-        match told_of_silence(told, missing) {
-            Some(SilenceTold::Lasts) => {
-                self.told_ms = missing;
-                self.is_named = was_named || has_room;
-                Some(Happening::Missing(*standing))
-            }
-            Some(SilenceTold::IsOver) => {
-                self.told_ms = 0;
-                self.is_named = false;
-                if was_named {
-                    heard_again(standing, before, told)
-                } else {
-                    None
-                }
-            }
-            None => None,
-        }
-    }
-}
-
-// That a federate was heard again, of which nothing had come for so long before, and of which it was told last that
-// it was missing for so long. None where it is silent still, and awaited no more; or where nothing ever came of it
-// before: then it is told that it is connected.
-fn heard_again(standing: &Standing, before: Option<u64>, told_ms: u64) -> Option<Happening> {
-    match before {
-        Some(before_ms) if unheard_ms(standing) < told_ms => {
-            Some(Happening::HeardAgain(standing.federate, before_ms))
-        }
-        _ => None,
-    }
 }
 
 impl<'a, L: Look> Overview<'a, L> {
@@ -143,11 +60,7 @@ impl<'a, L: Look> Overview<'a, L> {
             seen,
             looked_ms: now,
             next_ms: now,
-            completed_ms: now,
-            granted_ms: now,
-            still_told_ms: 0,
-            ungranted_told_ms: 0,
-            stands: false,
+            stillness: Stillness::new(now),
             is_due: false,
             told: None,
         }
@@ -155,7 +68,10 @@ impl<'a, L: Look> Overview<'a, L> {
 
     /// Looks once more, and tells what there is to tell.
     pub(crate) fn go_on<R: Wait + Clock>(&mut self, rt: &R) {
+        let before = self.looked_ms;
         let now = self.heard.millis(rt);
+        self.looked_ms = now;
+        self.leave_out(before, now);
         self.heard.look(now);
         if self.seen.is_empty() {
             return;
@@ -170,8 +86,24 @@ impl<'a, L: Look> Overview<'a, L> {
             self.tell_missing(rt, now);
             self.tell_still(rt, now);
         }
+        if is_how_far_told(before, now) {
+            self.is_due = true;
+        }
         self.tell_how_far(rt, now);
-        self.looked_ms = now;
+    }
+
+    // Leaves out what doesn't count of the time between two looks: all before it is as if it had been so much later.
+    fn leave_out(&mut self, before: u64, now: u64) {
+        let lapse_ms = now.saturating_sub(before);
+        let left_out_ms = lapse_ms.saturating_sub(counted_ms(lapse_ms));
+        if left_out_ms == 0 {
+            return;
+        }
+        self.heard.leave_out(before, left_out_ms);
+        self.stillness = self.stillness.later(left_out_ms);
+        for seen in self.seen.iter_mut() {
+            *seen = seen.later(left_out_ms);
+        }
     }
 
     // Reads how far each federate is, and tells that the run goes on, where it stood still.
@@ -193,21 +125,19 @@ impl<'a, L: Look> Overview<'a, L> {
         if has_completed {
             self.tell_going_on(rt, now);
         }
-        if has_completed || has_granted {
-            self.granted_ms = now;
-            self.ungranted_told_ms = 0;
+        if has_granted {
+            self.stillness = self.stillness.granted(now);
         }
-        self.note_awaited(now, now.saturating_sub(self.completed_ms) >= STILL_MS);
+        self.note_awaited(now, self.stillness.stood_ms(now) >= STILL_MS);
     }
 
     // A tag was completed: tells so, where the run stood still.
     fn tell_going_on<R: Wait + Clock>(&mut self, rt: &R, now: u64) {
-        if self.stands {
-            let stood_ms = now.saturating_sub(self.completed_ms);
+        if self.stillness.is_told {
+            let stood_ms = self.stillness.stood_ms(now);
             self.heard.tell(rt, rt, Happening::GoesOn(stood_ms));
         }
-        self.stands = false;
-        self.completed_ms = now;
+        self.stillness = self.stillness.completed(now);
     }
 
     // Notes for whom the run may wait at this time, where it stands still or doesn't. Who holds it back counts where nobody
@@ -221,7 +151,7 @@ impl<'a, L: Look> Overview<'a, L> {
             let holds = is_held && is_least;
             let is_awaited = may_be_awaited(&standing, holds);
             if let Some(seen) = self.seen.get_mut(federate) {
-                seen.note_awaited(is_awaited, now);
+                *seen = seen.awaited(is_awaited, now);
             }
         }
     }
@@ -251,11 +181,7 @@ impl<'a, L: Look> Overview<'a, L> {
         for federate in 0..self.seen.len() {
             let has_room = told < MOST_TOLD;
             let standing = self.seen_standing(federate, now);
-            let what = match self.seen.get_mut(federate) {
-                Some(seen) => seen.go_on(&standing, now, has_room),
-                None => None,
-            };
-            match what {
+            match self.look_on(federate, &standing, now, has_room) {
                 Some(Happening::Missing(_)) if !has_room => others = others.saturating_add(1),
                 Some(what) => {
                     if matches!(what, Happening::Missing(_)) {
@@ -271,22 +197,32 @@ impl<'a, L: Look> Overview<'a, L> {
         }
     }
 
+    // What there is to tell of a federate at this time, where it stands there, and there is room for its name or isn't.
+    fn look_on(
+        &mut self,
+        federate: usize,
+        standing: &Standing,
+        now: u64,
+        has_room: bool,
+    ) -> Option<Happening> {
+        let seen = self.seen.get_mut(federate)?;
+        let what = seen.told(standing, now);
+        *seen = seen.after_look(standing, now, has_room);
+        what
+    }
+
     // At a coordinator: tells that nobody is heard.
     fn tell_still<R: Wait + Clock>(&mut self, rt: &R, now: u64) {
         let mut quiet_ms = u64::MAX;
         for federate in 0..self.seen.len() {
             quiet_ms = quiet_ms.min(unheard_ms(&self.seen_standing(federate, now)));
         }
-        match told_of_silence(self.still_told_ms, quiet_ms) {
-            Some(SilenceTold::Lasts) => {
-                self.note_awaited(now, true);
-                self.still_told_ms = quiet_ms;
-                self.stands = true;
-                let still = Happening::Still(quiet_ms, awaited_in(&self.seen));
-                self.heard.tell(rt, rt, still);
-            }
-            Some(SilenceTold::IsOver) => self.still_told_ms = 0,
-            None => {}
+        let told = self.stillness.silence_told(quiet_ms);
+        self.stillness = self.stillness.after_silence(quiet_ms);
+        if told == Some(SilenceTold::Lasts) {
+            self.note_awaited(now, true);
+            let still = Happening::Still(quiet_ms, awaited_in(&self.seen));
+            self.heard.tell(rt, rt, still);
         }
     }
 
@@ -294,17 +230,13 @@ impl<'a, L: Look> Overview<'a, L> {
     fn tell_coordinator<R: Wait + Clock>(&mut self, rt: &R, now: u64) {
         let standing = self.seen_standing(0, now);
         let quiet_ms = unheard_ms(&standing);
-        match told_of_silence(self.still_told_ms, quiet_ms) {
-            Some(SilenceTold::Lasts) => {
-                self.still_told_ms = quiet_ms;
-                self.stands = true;
-                self.heard.tell(rt, rt, Happening::Unheard(standing));
-            }
+        let told = self.stillness.silence_told(quiet_ms);
+        self.stillness = self.stillness.after_silence(quiet_ms);
+        match told {
+            Some(SilenceTold::Lasts) => self.heard.tell(rt, rt, Happening::Unheard(standing)),
             Some(SilenceTold::IsOver) => {
-                self.still_told_ms = 0;
                 // What it grants comes behind that.
-                self.granted_ms = now;
-                self.ungranted_told_ms = 0;
+                self.stillness = self.stillness.granted(now);
                 if let Some(before_ms) = self.quiet_before() {
                     let again = Happening::CoordinatorHeard(before_ms);
                     self.heard.tell(rt, rt, again);
@@ -325,21 +257,17 @@ impl<'a, L: Look> Overview<'a, L> {
 
     // At a federate that hears the coordinator: tells that it grants nothing.
     fn tell_ungranted<R: Wait + Clock>(&mut self, rt: &R, now: u64) {
-        let ungranted_ms = now.saturating_sub(self.granted_ms);
-        let told = told_of_silence(self.ungranted_told_ms, ungranted_ms);
-        if told == Some(SilenceTold::Lasts) {
-            self.ungranted_told_ms = ungranted_ms;
-            self.stands = true;
+        if self.stillness.ungranted_told(now) == Some(SilenceTold::Lasts) {
+            let ungranted_ms = self.stillness.ungranted_ms(now);
+            self.stillness = self.stillness.told_ungranted(now);
             self.heard.tell(rt, rt, Happening::Ungranted(ungranted_ms));
         }
     }
 
-    // Tells how far the run is, where that is known and it is time for it: that it goes on, where it is farther than it was
-    // told last, or that it stands still, where nothing else was told of that.
+    // Tells how far the run is, where that is known and it is time for it: that it goes on, where another tag is the least
+    // than was told last, which may be an earlier one: of a federate that has completed its first meanwhile; or that it
+    // stands still, where nothing else was told of that.
     fn tell_how_far<R: Wait + Clock>(&mut self, rt: &R, now: u64) {
-        if is_how_far_told(self.looked_ms, now) {
-            self.is_due = true;
-        }
         if !self.is_due {
             return;
         }
@@ -367,7 +295,7 @@ impl<'a, L: Look> Overview<'a, L> {
             self.heard.tell(rt, rt, Happening::Runs(how_far, awaited));
         }
         if !goes_on {
-            self.stands = true;
+            self.stillness = self.stillness.told();
         }
     }
 
@@ -376,13 +304,13 @@ impl<'a, L: Look> Overview<'a, L> {
         if self.look.is_federate() && !self.heard.is_connected(0) {
             Some(false)
         } else {
-            is_going_on(now.saturating_sub(self.completed_ms))
+            is_going_on(self.stillness.stood_ms(now))
         }
     }
 
     // Whether it was told that the run stands still, or for whom it waits.
     fn is_stillness_told(&self) -> bool {
-        self.stands || self.seen.iter().any(|seen| seen.told_ms > 0)
+        self.stillness.is_told || self.seen.iter().any(|seen| seen.told_ms > 0)
     }
 
     // Who is connected of a coordinator's federates, in a run that goes on, and else who is awaited.

@@ -1,7 +1,7 @@
 ghost use Rattle.std.specs.Prelude.{◌≡◌};
 ghost use Rattle.wires_hosts.specs.Silence as definition;
 
-use crate::times::{PATIENCE_LOOK_MS, STILL_MS};
+use crate::times::{LATE_LOOK_MS, PATIENCE_LOOK_MS, STILL_MS};
 
 /// How long nothing was heard, by looks at how often something was. It is counted in looks and not by the clock: a
 /// process that was stopped for a while, and goes on, has heard what came meanwhile before it thinks that it was
@@ -56,5 +56,17 @@ pub fn told_of_silence(told_ms: u64, quiet_ms: u64) -> Option<SilenceTold>
         Some(SilenceTold::Lasts)
     } else {
         None
+    }
+}
+
+/// How many of the ms between two looks count. Where they are too many, the process was stopped meanwhile, and whoever
+/// hears what came had no time for that: they count as the time between two others.
+pub fn counted_ms(lapse_ms: u64) -> u64
+    ensures { result ≡ definition.counted_ms lapse_ms }
+{
+    if lapse_ms > LATE_LOOK_MS {
+        PATIENCE_LOOK_MS
+    } else {
+        lapse_ms
     }
 }

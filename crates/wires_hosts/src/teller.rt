@@ -7,8 +7,8 @@ use crate::times::WIPE_MS;
 use crossbeam_channel::{Receiver, Sender, bounded};
 use plan_names::Text;
 use std::alloc::{AllocError, Global};
-use std::sync::Wait;
-use std::sync::atomic::{AtomicU64, Ordering};
+use std::sync::atomic::{AtomicBool, AtomicU64, Ordering};
+use std::sync::{Arc, Wait};
 use std::time::{Clock, Duration, Instant};
 use tag::Time;
 
@@ -53,39 +53,89 @@ pub struct Happened {
 #[derive(Drop)]
 pub struct Teller {
     // None where nobody watches.
-    to: Option<Sender<Told>>,
+    to: Option<Outlet>,
     // None where nobody measures.
     measures: Option<Sender<Measured>>,
     // None where the clock couldn't be read.
     start: Option<Instant>,
     // Whether whoever watches wants to be told where federates stand.
     wants_looks: bool,
+}
+
+/// Whoever watches a node takes here what it tells. Nothing more comes once all who tell of the node are gone.
+#[derive(Drop)]
+pub struct Watcher {
+    pub told: Receiver<Told>,
+    beside: Arc<Beside>,
+}
+
+// Where what a node tells is handed in.
+#[derive(Drop)]
+struct Outlet {
+    to: Sender<Told>,
+    beside: Arc<Beside>,
+}
+
+// What all who tell of a node share with whoever watches it, beside the channel.
+#[derive(Drop)]
+struct Beside {
+    // How often something happened for which there was no room, and of which nothing was told so far.
     left_out: AtomicU64,
+    // Whether no look is to be drawn any more.
+    is_over: AtomicBool,
+}
+
+impl Watcher {
+    /// How often something happened for which there was no room, and which wasn't counted with anything that was told.
+    /// Once the node has ended nothing tells it but this.
+    pub fn left_out(&self) -> u64 {
+        self.beside.left_out.load(Ordering::SeqCst)
+    }
+
+    /// Whether no look is to be drawn any more, nor left where it was drawn: the node is about to say how it ended.
+    pub fn is_over(&self) -> bool {
+        self.beside.is_over.load(Ordering::SeqCst)
+    }
+}
+
+impl Outlet {
+    // Another one of the same node; None where there is no memory for it.
+    fn another(&self) -> Option<Outlet> {
+        Some(Outlet {
+            to: self.to.clone().ok()?,
+            beside: Arc::try_clone(&self.beside).ok()?,
+        })
+    }
 }
 
 impl Teller {
     /// Nobody watches.
     pub fn silent() -> Teller {
-        Teller::new(None, None, false)
+        Teller::new(None, None)
     }
 
-    /// Of a node that begins now, with the end where what it tells is taken. Nothing more comes there once it, and all
-    /// others of that node, are gone.
-    pub fn watched<C: Clock>(
-        clock: &C,
-        alloc: Global,
-    ) -> Result<(Teller, Receiver<Told>), AllocError> {
+    /// Of a node that begins now, with whoever watches it.
+    pub fn watched<C: Clock>(clock: &C, alloc: Global) -> Result<(Teller, Watcher), AllocError> {
         let (to, told) = bounded(alloc, MOST_WAITING)?;
-        Ok((Teller::new(Some(to), Instant::now(clock).ok(), false), told))
+        let beside = Beside {
+            left_out: AtomicU64::new(0),
+            is_over: AtomicBool::new(false),
+        };
+        let beside = Arc::new(alloc, beside)?;
+        let outlet = Outlet {
+            to,
+            beside: Arc::try_clone(&beside)?,
+        };
+        let teller = Teller::new(Some(outlet), Instant::now(clock).ok());
+        Ok((teller, Watcher { told, beside }))
     }
 
-    fn new(to: Option<Sender<Told>>, start: Option<Instant>, wants_looks: bool) -> Teller {
+    fn new(to: Option<Outlet>, start: Option<Instant>) -> Teller {
         Teller {
             to,
             measures: None,
             start,
-            wants_looks,
-            left_out: AtomicU64::new(0),
+            wants_looks: false,
         }
     }
 
@@ -95,7 +145,6 @@ impl Teller {
             to,
             start,
             wants_looks,
-            left_out,
             ..
         } = self;
         let start = match start {
@@ -107,7 +156,6 @@ impl Teller {
             measures: Some(measures),
             start,
             wants_looks,
-            left_out,
         }
     }
 
@@ -117,7 +165,6 @@ impl Teller {
             to,
             measures,
             start,
-            left_out,
             ..
         } = self;
         Teller {
@@ -125,14 +172,13 @@ impl Teller {
             measures,
             start,
             wants_looks: true,
-            left_out,
         }
     }
 
     /// Another one of the same node.
     pub fn another(&self) -> Teller {
         let to = match &self.to {
-            Some(to) => to.clone().ok(),
+            Some(to) => to.another(),
             None => None,
         };
         let measures = match &self.measures {
@@ -144,7 +190,6 @@ impl Teller {
             measures,
             start: self.start,
             wants_looks: self.wants_looks,
-            left_out: AtomicU64::new(0),
         }
     }
 
@@ -157,54 +202,64 @@ impl Teller {
     /// whoever is slow gets less, and what happens has its room.
     pub(crate) fn wants_look(&self) -> bool {
         match &self.to {
-            Some(to) => self.wants_looks && to.is_empty(),
+            Some(outlet) => self.wants_looks && outlet.to.is_empty(),
             None => false,
         }
     }
 
     /// Hands on what a look says. What has no room is left out: the next look tells it again.
     pub(crate) fn hand_on<R: Wait>(&self, rt: &R, told: Told) {
-        if let Some(to) = &self.to {
-            let _ = to.try_send(rt, told);
+        if let Some(outlet) = &self.to {
+            let _ = outlet.to.try_send(rt, told);
         }
     }
 
     /// Has what is drawn of looks wiped, where they are wanted, before anything else is written. It waits for that, a
-    /// second at most: whoever draws may be stopped.
+    /// second at most: whoever draws may be stopped. Even then no look is drawn that is taken behind this.
     pub fn wipe<R: Wait + Clock>(&self, rt: &R, alloc: Global) {
         if !self.wants_looks {
             return;
         }
-        let Some(to) = &self.to else {
+        let Some(outlet) = &self.to else {
             return;
         };
+        outlet.beside.is_over.store(true, Ordering::SeqCst);
         let Ok((wiped, until)) = bounded(alloc, 1) else {
             return;
         };
-        if to.try_send(rt, Told::Wipe(wiped)).is_ok() {
-            let _ = until.recv_timeout(rt, Duration::from_millis(WIPE_MS));
+        let Some(deadline) = later(rt, WIPE_MS) else {
+            return;
+        };
+        if outlet
+            .to
+            .send_deadline(rt, Told::Wipe(wiped), deadline)
+            .is_ok()
+        {
+            let _ = until.recv_deadline(rt, deadline);
         }
     }
 
     /// Tells the names of the federates. It is asked before anything happens: then there is room.
     pub fn name<R: Wait>(&self, rt: &R, federates: Vec<Text>) {
-        if let Some(to) = &self.to {
-            let _ = to.try_send(rt, Told::Federates(federates));
+        if let Some(outlet) = &self.to {
+            let _ = outlet.to.try_send(rt, Told::Federates(federates));
         }
     }
 
     /// Tells that this happened now.
     pub fn tell<R: Wait, C: Clock>(&self, rt: &R, clock: &C, what: Happening) {
-        if let Some(to) = &self.to {
-            let left_out = self.left_out.swap(0, Ordering::SeqCst);
+        if let Some(outlet) = &self.to {
+            let left_out = outlet.beside.left_out.swap(0, Ordering::SeqCst);
             let happened = Happened {
                 millis: self.millis(clock),
                 what,
                 left_out,
             };
-            if to.try_send(rt, Told::Happened(happened)).is_err() {
+            if outlet.to.try_send(rt, Told::Happened(happened)).is_err() {
                 // Those before it are counted again, and so is it.
-                self.left_out
+                outlet
+                    .beside
+                    .left_out
                     .fetch_add(left_out.saturating_add(1), Ordering::SeqCst);
             }
         }
@@ -228,4 +283,11 @@ impl Teller {
             None => 0,
         }
     }
+}
+
+// The time in so many ms. None where the clock can't be read.
+fn later<C: Clock>(clock: &C, millis: u64) -> Option<Instant> {
+    Instant::now(clock)
+        .ok()?
+        .checked_add(Duration::from_millis(millis))
 }

@@ -12,6 +12,10 @@ pub const ENDING_LOOK_MS: u64 = 10;
 /// Between two looks at whether something was heard.
 pub const PATIENCE_LOOK_MS: u64 = 50;
 
+/// Where a look comes later than this, the process was stopped since the one before: what is between them counts as the
+/// time between two others.
+pub const LATE_LOOK_MS: u64 = 1000;
+
 /// After so long a silence it is told that a run stands still, and after twice as long, four times as long and so on.
 pub const STILL_MS: u64 = 5000;
 

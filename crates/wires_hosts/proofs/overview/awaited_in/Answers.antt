@@ -1,6 +1,6 @@
 use Rattle.std.proofs.Common.{◌∙◌, List, ap}
 use Rattle.std.proofs.lemmas.List.{take_all}
-use Rattle.wires_hosts.specs.declared.overview.Seen.{Seen}
+use Rattle.wires_hosts.specs.declared.seen.Seen.{Seen}
 use Rattle.wires_hosts.specs.Awaited.{awaited_of}
 use Rattle.wires_hosts.specs.Overview.{are_there}
 use Rattle.wires_hosts.proofs.Federates.{awaited_more}

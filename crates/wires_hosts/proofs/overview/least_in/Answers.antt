@@ -2,7 +2,7 @@ use Rattle.std.proofs.Common.{◌≡◌, List, Option, None, subst}
 use Rattle.std.proofs.lemmas.List.{take_all}
 use Rattle.std.proofs.lemmas.List.Elements.{All-nil}
 use Rattle.tag.specs.LogicalTime.{LogicalTime}
-use Rattle.wires_hosts.specs.declared.overview.Seen.{Seen}
+use Rattle.wires_hosts.specs.declared.seen.Seen.{Seen}
 use Rattle.wires_hosts.specs.Standing.{IsLeast}
 use Rattle.wires_hosts.specs.Overview.{completed_by}
 use Rattle.wires_hosts.proofs.Federates.{least_more}
