@@ -93,7 +93,7 @@ impl<'a> Node for Coordinator<'a> {
 
     ghost listed = { λ none. [] };
 
-    ghost IS_COORDINATOR = { true };
+    ghost HUB = { true };
 
     ghost core = { coordinator_core };
 

@@ -32,7 +32,7 @@ impl<N: Node> Model for Desk<N> {
 
     ghost view = { λ d. record { station = d.station; journal = d.journal } };
 
-    ghost invariant = { λ d. d.station ≡ replay.replay N.core N.IS_COORDINATOR d.station d.journal };
+    ghost invariant = { λ d. d.station ≡ replay.replay N.core N.HUB d.station d.journal };
 }
 
 impl<N: Node> Desk<N> {
@@ -52,7 +52,7 @@ impl<N: Node> Desk<N> {
     pub fn with_journal(self, journal: Journal) -> Result<Desk<N>, Memory>
         requires { self.journal ≡ [] }
         ensures { IfOk result (λ desk. desk ≡ record {
-          station = after_all N.core N.IS_COORDINATOR self.station journal;
+          station = after_all N.core N.HUB self.station journal;
           journal = journal;
         }) }
     {
@@ -73,7 +73,7 @@ impl<N: Node> Desk<N> {
     /// All events so far.
     pub fn journal(&self) -> &Journal
         ensures events { result.now ≡ self.now.journal }
-        ensures replay { self.now.station ≡ replay N.core N.IS_COORDINATOR self.now.station self.now.journal }
+        ensures replay { self.now.station ≡ replay N.core N.HUB self.now.station self.now.journal }
     {
         &self.journal
     }
@@ -82,7 +82,7 @@ impl<N: Node> Desk<N> {
     pub fn into_parts(self) -> (Station<N>, Journal)
         ensures station { result.0 ≡ self.station }
         ensures journal { result.1 ≡ self.journal }
-        ensures replay { self.station ≡ replay N.core N.IS_COORDINATOR self.station self.journal }
+        ensures replay { self.station ≡ replay N.core N.HUB self.station self.journal }
     {
         (self.station, self.journal)
     }
@@ -91,9 +91,9 @@ impl<N: Node> Desk<N> {
     /// nothing. Without memory nothing has changed, and the same event may come again.
     pub fn handle(&mut self, event: Event) -> Result<Reply, Memory>
         ensures step { IfOk result (λ reply. record { station = self.new.station; answer = answer_in reply }
-            ≡ step_of N.core N.IS_COORDINATOR
-            (replay N.core N.IS_COORDINATOR self.old.station self.old.journal) event) }
-        ensures station { self.old.station ≡ replay N.core N.IS_COORDINATOR self.old.station self.old.journal }
+            ≡ step_of N.core N.HUB
+            (replay N.core N.HUB self.old.station self.old.journal) event) }
+        ensures station { self.old.station ≡ replay N.core N.HUB self.old.station self.old.journal }
         ensures initial { initial_of N.core self.new.station ≡ initial_of N.core self.old.station }
         ensures journal { OnOk result (self.new.journal ≡ self.old.journal ++ event ∷ []) }
         ensures unchanged { OnErr result (self.new ≡ self.old) }
@@ -111,7 +111,7 @@ impl<N: Node> Desk<N> {
         ensures journal { self.new.journal ≡ self.old.journal ++ take result batch.now }
         ensures initial { initial_of N.core self.new.station ≡ initial_of N.core self.old.station }
         ensures replies { AreAdded replies.old
-            (answers_of N.core N.IS_COORDINATOR self.old.station (take result batch.now)) replies.new }
+            (answers_of N.core N.HUB self.old.station (take result batch.now)) replies.new }
     {
         // For the prover: what the station was made from stays.
         initial_stations_stay::<N>();
@@ -132,7 +132,7 @@ impl<N: Node> Desk<N> {
         ensures journal { self.new.journal ≡ self.old.journal ++ turn_events result.events }
         ensures initial { initial_of N.core self.new.station ≡ initial_of N.core self.old.station }
         ensures replies { AreAdded replies.old
-            (answers_of N.core N.IS_COORDINATOR self.old.station (turn_events result.events)) replies.new }
+            (answers_of N.core N.HUB self.old.station (turn_events result.events)) replies.new }
     {
         // For the prover: what the station was made from stays.
         initial_stations_stay::<N>();
@@ -168,7 +168,7 @@ impl<N: Node> Desk<N> {
 
 // Makes the station's steps for all events of a journal.
 fn replay<N: Node>(station: &mut Station<N>, journal: &Journal) -> Result<(), Memory>
-    ensures { OnOk result (station.new ≡ after_all N.core N.IS_COORDINATOR station.old journal.now) }
+    ensures { OnOk result (station.new ≡ after_all N.core N.HUB station.old journal.now) }
 {
     let mut near = 0;
     for place in 0..journal.len() {
@@ -184,9 +184,9 @@ fn replay<N: Node>(station: &mut Station<N>, journal: &Journal) -> Result<(), Me
 // Makes the station's steps, until there is no memory for one. Returns how many.
 fn step_all<N: Node>(station: &mut Station<N>, events: &[Event], replies: &mut BatchReply) -> usize
     ensures few { result ≤ length events.now }
-    ensures station { station.new ≡ after_all N.core N.IS_COORDINATOR station.old (take result events.now) }
+    ensures station { station.new ≡ after_all N.core N.HUB station.old (take result events.now) }
     ensures replies { AreAdded replies.old
-        (answers_of N.core N.IS_COORDINATOR station.old (take result events.now)) replies.new }
+        (answers_of N.core N.HUB station.old (take result events.now)) replies.new }
 {
     for place in 0..events.len() {
         match station.step(events[place]) {
@@ -207,9 +207,9 @@ fn step_turns<N: Node>(
     replies: &mut BatchReply,
 ) -> TurnSteps
     ensures few { result.events ≤ events }
-    ensures station { station.new ≡ after_all N.core N.IS_COORDINATOR station.old (turn_events result.events) }
+    ensures station { station.new ≡ after_all N.core N.HUB station.old (turn_events result.events) }
     ensures replies { AreAdded replies.old
-        (answers_of N.core N.IS_COORDINATOR station.old (turn_events result.events)) replies.new }
+        (answers_of N.core N.HUB station.old (turn_events result.events)) replies.new }
 {
     // Whether the announcement of this turn did something.
     let mut has_announced = false;
@@ -247,7 +247,7 @@ fn step<N: Node>(
     event: Event,
 ) -> Result<Reply, Memory>
     ensures step { IfOk result (λ reply. record { station = station.new; answer = answer_in reply }
-        ≡ step_of N.core N.IS_COORDINATOR station.old event) }
+        ≡ step_of N.core N.HUB station.old event) }
     ensures journal { OnOk result (journal.new ≡ journal.old ++ event ∷ []) }
     ensures station_unchanged { OnErr result (station.new ≡ station.old) }
     ensures journal_unchanged { OnErr result (journal.new ≡ journal.old) }

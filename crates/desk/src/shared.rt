@@ -225,7 +225,7 @@ fn enter_batch<N: Node>(
     ensures slips { slips.new ≡ slips.old ++ slips_from (length desk.old.journal) (take result batch.now) }
     ensures initial { initial_of N.core desk.new.station ≡ initial_of N.core desk.old.station }
     ensures replies { AreAdded replies.old
-        (answers_of N.core N.IS_COORDINATOR desk.old.station (take result batch.now)) replies.new }
+        (answers_of N.core N.HUB desk.old.station (take result batch.now)) replies.new }
 {
     let Ok(()) = slips.add_batch(desk.journal().len(), batch) else {
         return 0;
@@ -249,7 +249,7 @@ fn enter_turns<N: Node>(
     ensures slips { slips.new ≡ slips.old ++ slips_from (length desk.old.journal) (turn_events result.events) }
     ensures initial { initial_of N.core desk.new.station ≡ initial_of N.core desk.old.station }
     ensures replies { AreAdded replies.old
-        (answers_of N.core N.IS_COORDINATOR desk.old.station (turn_events result.events)) replies.new }
+        (answers_of N.core N.HUB desk.old.station (turn_events result.events)) replies.new }
 {
     let Ok(()) = slips.add_turns(desk.journal().len(), events) else {
         return TurnSteps::none();
@@ -265,7 +265,7 @@ fn enter_turns<N: Node>(
 #[tactic(auto, using(crate::proofs::Ends::undone))]
 fn enter<N: Node>(desk: &mut Desk<N>, slips: &mut Blocks, event: Event) -> Result<Reply, Memory>
     ensures step { IfOk result (λ reply. record { station = desk.new.station; answer = answer_in reply }
-        ≡ step_of N.core N.IS_COORDINATOR desk.old.station event) }
+        ≡ step_of N.core N.HUB desk.old.station event) }
     ensures journal { OnOk result (desk.new.journal ≡ desk.old.journal ++ event ∷ []) }
     ensures slip { OnOk result (slips.new ≡ slips.old
         ++ record { place = length desk.old.journal; event = event } ∷ []) }

@@ -290,7 +290,7 @@ impl<'a> Node for Federate<'a> {
 
     ghost listed = { λ rows. rows };
 
-    ghost IS_COORDINATOR = { false };
+    ghost HUB = { false };
 
     ghost core = { federate_core };
 

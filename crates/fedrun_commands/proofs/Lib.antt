@@ -13,3 +13,5 @@ pub mod Reported
 pub mod LookedAt
 -- report files, one after the other
 pub mod TakenInTurn
+-- what is gained of a fault's line
+pub mod Lines

@@ -1,5 +1,5 @@
 -- The program's faults: the exit status that goes with each, and how it is printed.
-use Rattle.std.specs.Prelude.{ℕ, List, ◌++◌, codes}
+use Rattle.std.specs.Prelude.{ℕ, List, ◌++◌, codes, Option}
 use Rattle.fedrun_words.specs.Faults as every
 use Rattle.fedrun_words.specs.declared.fault.Fault.{Fault}
 use Rattle.files_script.specs.Faults as script
@@ -48,6 +48,6 @@ printed_node_fault (Run memory) = memory_text
 abbrev pub status_of : Fault NodeFault → ℕ
 status_of = every.status_of node_status
 
--- how a fault is printed
-abbrev pub printed_fault : Fault NodeFault → List ℕ
+-- how a fault is printed, but for the program's own messages
+abbrev pub printed_fault : Fault NodeFault → Option (List ℕ)
 printed_fault = every.printed_fault printed_node_fault

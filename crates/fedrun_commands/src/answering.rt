@@ -1,4 +1,4 @@
-ghost use Rattle.std.specs.Prelude.{◌≡◌, ◌≢◌, ◌≤◌, ◌⊎◌, MatchOption};
+ghost use Rattle.std.specs.Prelude.{◌≡◌, ◌≢◌, ◌≤◌, ◌⊎◌, IfSome, MatchOption};
 ghost use Rattle.fedrun_words.specs.Lines.{line_of, PrintsFault};
 ghost use Rattle.fedrun_words.specs.Pieces.{AppendsPrefix, AppendsPrinted};
 ghost use Rattle.fedrun_files.specs.Answers.{Answers};
@@ -10,7 +10,7 @@ ghost use Rattle.fedrun_commands.specs.Refused.{Stands};
 use crate::fault::NodeFault;
 use crate::requests::perform;
 use fedrun_files::Files;
-use fedrun_progress::Progress;
+use fedrun_progress::{NoProgress, Progress};
 use fedrun_words::{Answered, Fault, refuse};
 use std::io::Write;
 use wires::NetRuntime;
@@ -31,13 +31,12 @@ pub struct CommandAnswer<'a> {
 /// where it couldn't finish. What it has to say of a failure is one line to `err`: what `err` gains is a prefix of that
 /// line, and `answer` says whether it is all of it; what `err` refuses changes nothing else. With 0, `run` printed the
 /// rows of reports that the audit proved, and whose coordinator is finished.
-pub fn command<R: AllocGlobal + NetRuntime, F: Files, O: Write, E: Write, P: Progress + Sync>(
+pub fn command<R: AllocGlobal + NetRuntime, F: Files, O: Write, E: Write>(
     rt: &R,
     words: &[String],
     files: &mut F,
     out: &mut O,
     err: &mut E,
-    progress: &P,
 ) -> u8
     ensures done { result ≡ 0 → PrintsAnswer (F.contents files.old) (O.contents out.old) (O.contents out.new) }
     ensures quiet { result ≡ 0 → err.new ≡ err.old }
@@ -49,10 +48,10 @@ pub fn command<R: AllocGlobal + NetRuntime, F: Files, O: Write, E: Write, P: Pro
     ensures unused { result ≡ 2 → out.new ≡ out.old }
     ensures statuses { result ≤ 3 }
 {
-    answer(rt, words, files, out, err, progress).status
+    answer(rt, words, files, out, err, &NoProgress).status
 }
 
-/// As `command`; the answer says too which fault it is, and whether its line could be written.
+/// As `command`, and whoever watches is told how far it is; the answer says too which fault it is, and whether its line could be written.
 pub fn answer<'a, R: AllocGlobal + NetRuntime, F: Files, O: Write, E: Write, P: Progress + Sync>(
     rt: &R,
     words: &'a [String],
@@ -71,7 +70,8 @@ pub fn answer<'a, R: AllocGlobal + NetRuntime, F: Files, O: Write, E: Write, P: 
         Stands (F.contents files.old) (Answers (F.answers files.old) (F.answers files.new)) (O.contents out.old)
         (O.contents out.new) fault
         × (result.status ≡ status_of fault)
-        × AppendsPrinted result.is_printed (E.contents err.old) (E.contents err.new) (line_of (printed_fault fault))) }
+        × IfSome (printed_fault fault) (λ text.
+        AppendsPrinted result.is_printed (E.contents err.old) (E.contents err.new) (line_of text))) }
     ensures untouched { result.status ≡ 1
         → (out.new ≡ out.old) ⊎ HasToldWrong (F.contents files.old) (O.contents out.old) (O.contents out.new) }
     ensures unused { result.status ≡ 2 → out.new ≡ out.old }

@@ -37,6 +37,18 @@ pub(crate) fn advice_on_run(cause: Cause) -> &'static str {
     }
 }
 
+/// What to do where a file can't be read.
+pub(crate) const UNREADABLE: &str =
+    "there is no such file, as seen from this folder, or it is a folder, or can't be read; in the place of IN a - is for no inputs";
+
+/// The same of a node's secret.
+pub(crate) const UNREADABLE_SECRET: &str =
+    "there is no such file of a secret (--secret), as seen from this folder, or it is a folder, or can't be read by this user";
+
+/// The same of standard input.
+pub(crate) const UNREADABLE_INPUT: &str =
+    "- is standard input: it is closed, can't be read, or was read for another of the words already; a file called so is ./-";
+
 /// What to do where reports aren't proved.
 pub(crate) const UNPROVED: &str =
     "a report is missing, is of another run of these files, is the log of a node that was cut off, or was changed: give those of one run, one of each node, each as it was at its end";
@@ -77,25 +89,56 @@ fn advice_on_saving(why: SaveFault) -> &'static str {
     }
 }
 
-/// What to do about a report or a log that isn't taken.
+/// What to do about a report or a log that isn't taken, by the number of its fault.
+const ON_REPORTS: &[(u16, &str)] = &[
+    (80, "it is of a federate that this federation hasn't"),
+    (
+        81,
+        "one before it is of the same federate: name one of each",
+    ),
+    (
+        100,
+        "it is no report, or one of another version: the words are FED IN COORDINATOR FEDERATE.., with - in the place of IN where there are no inputs, and the others reports or logs",
+    ),
+    (101, "it is longer than a report may be"),
+    (
+        102,
+        "it was cut short, or changed on its way: copy it again from its node",
+    ),
+    (
+        103,
+        "it is of another federation file or of other recorded inputs: give those of that run, byte for byte",
+    ),
+    (104, NOT_OURS),
+    (105, NOT_OURS),
+    (106, NOT_OURS),
+    (107, NOT_OURS),
+    (108, NOT_OURS),
+    (
+        111,
+        "the coordinator's report comes first, then one of each federate",
+    ),
+    (
+        121,
+        "another version of the program wrote it: audit it by that one",
+    ),
+    (
+        122,
+        "it isn't as it was written: copy it again from its node",
+    ),
+];
+
+const NOT_OURS: &str = "it is whole, and no node of this program wrote it: ask who did";
+
+/// The advice on such a report, if there is any.
 pub(crate) fn advice_on_report(why: NodeFileFault) -> Option<&'static str> {
-    match why.number() {
-        80 => Some("it is of a federate that this federation hasn't"),
-        81 => Some("one before it is of the same federate: name one of each"),
-        100 => Some(
-            "it is no report, or one of another version: the words are FED IN COORDINATOR FEDERATE.., with - in the place of IN where there are no inputs, and the others reports or logs",
-        ),
-        101 => Some("it is longer than a report may be"),
-        102 => Some("it was cut short, or changed on its way: copy it again from its node"),
-        103 => Some(
-            "it is of another federation file or of other recorded inputs: give those of that run, byte for byte",
-        ),
-        104..=108 => Some("it is whole, and no node of this program wrote it: ask who did"),
-        111 => Some("the coordinator's report comes first, then one of each federate"),
-        121 => Some("another version of the program wrote it: audit it by that one"),
-        122 => Some("it isn't as it was written: copy it again from its node"),
-        _ => None,
+    let number = why.number();
+    for (about, advice) in ON_REPORTS {
+        if *about == number {
+            return Some(*advice);
+        }
     }
+    None
 }
 
 /// What to do about the fault of a node on a machine of its own, which keeps a log or was to keep none.

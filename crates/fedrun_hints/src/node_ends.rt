@@ -1,45 +1,14 @@
 //! Why a node on a machine of its own couldn't begin at its address, or isn't finished.
 use crate::advice::{Advice, advice_on_run};
-use crate::noted_files::NotedFiles;
-use crate::standings::print_standings;
-use fedrun_files::Files;
-use fedrun_hosts::{HostRequest, ListenFault, NodeRequest, Unfinished, read_node_words};
+use fedrun_hosts::{ListenFault, NodeRequest, Unfinished};
 use fedrun_words::print_text;
-use files_saving::temporary_name;
-use std::alloc::Global;
 use std::fmt;
 use std::io::Write;
 use wires_hosts::{DialFault, HostAddress, Unreached};
 
-/// Whether the node for which the words ask keeps a log.
-pub(crate) fn keeps_log(alloc: Global, words: &[String]) -> bool {
-    match read_node_words(alloc, words) {
-        Ok(HostRequest::Coordinate(node)) => node.log.is_some(),
-        Ok(HostRequest::Join { node, .. }) => node.log.is_some(),
-        Err(_) => false,
-    }
-}
-
-/// The file of the secret of the node for which the words ask, if it has one.
-pub(crate) fn secret_of<'a>(alloc: Global, words: &'a [String]) -> Option<&'a str> {
-    match read_node_words(alloc, words) {
-        Ok(HostRequest::Coordinate(node)) => node.secret,
-        Ok(HostRequest::Join { node, .. }) => node.secret,
-        Err(_) => None,
-    }
-}
-
-/// Tells why the coordinator for which the words ask can't listen at its address.
-pub(crate) fn print_listener<E: Write>(
-    alloc: Global,
-    words: &[String],
-    why: ListenFault,
-    err: &mut E,
-) {
-    if let Ok(HostRequest::Coordinate(node)) = read_node_words(alloc, words) {
-        let address = node.address;
-        let _is_told = print_text(err, &NoListener { address, why });
-    }
+/// Tells why a coordinator can't listen at its address.
+pub(crate) fn print_listener<E: Write>(address: HostAddress, why: ListenFault, err: &mut E) {
+    let _is_told = print_text(err, &NoListener { address, why });
 }
 
 // Whether an address is a host's name, which may have none.
@@ -82,27 +51,13 @@ impl fmt::Display for NoListener {
     }
 }
 
-/// Tells why the run of the node for which the words ask isn't finished, and of a coordinator's how far each federate
-/// was, as its report or its log says.
-pub(crate) fn print_node_end<F: Files + Drop, E: Write>(
-    alloc: Global,
-    words: &[String],
+/// Tells how a node ended that isn't finished: a federate that might make this many turns, or a coordinator.
+pub(crate) fn print_end<E: Write>(
+    node: &NodeRequest<'_>,
+    turns: Option<u32>,
     why: Unfinished,
-    files: &mut NotedFiles<F>,
     err: &mut E,
 ) {
-    match read_node_words(alloc, words) {
-        Ok(HostRequest::Coordinate(node)) => {
-            print_end(&node, None, why, err);
-            print_heard(alloc, &node, files, err);
-        }
-        Ok(HostRequest::Join { node, turns, .. }) => print_end(&node, Some(turns), why, err),
-        Err(_) => {}
-    }
-}
-
-// Tells how a node ended, of a federate that might make this many turns.
-fn print_end<E: Write>(node: &NodeRequest<'_>, turns: Option<u32>, why: Unfinished, err: &mut E) {
     let address = node.address;
     let (how, last) = match why {
         Unfinished::OutOfPatience(last) => (How::of_patience(node.patience), last),
@@ -213,22 +168,5 @@ impl fmt::Display for NodeEnd {
                 "help: {how}: whoever took the last connection to {address} gave no answer as a coordinator does; look who listens there\n"
             ),
         }
-    }
-}
-
-// Tells how far each federate was that this coordinator heard: its journal is in its log, or where it has none, in its
-// report.
-fn print_heard<F: Files + Drop, E: Write>(
-    alloc: Global,
-    node: &NodeRequest<'_>,
-    files: &mut NotedFiles<F>,
-    err: &mut E,
-) {
-    if node.log.is_none() {
-        print_standings(alloc, node.report, node.inputs, files, err);
-        return;
-    }
-    if let Ok(log) = temporary_name(alloc, node.report) {
-        print_standings(alloc, log.as_str(), node.inputs, files, err);
     }
 }

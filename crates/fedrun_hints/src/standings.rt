@@ -1,11 +1,11 @@
 //! How far federates were, as a coordinator heard it.
 use crate::findings::plan_of;
-use crate::noted_files::{NotedFile, NotedFiles};
 use fedrun_files::Files;
 use fedrun_reports::read_coordinator;
 use fedrun_words::print_text;
 use files_reports::FileDigests;
 use files_reports::layout::LONGEST_REPORT;
+use loadfed::{MOST_BYTES, MOST_INPUT_BYTES};
 use node::Event;
 use node_journal::Journal;
 use signal::{Frame, Signal};
@@ -44,25 +44,25 @@ impl Standing {
 }
 
 /// Tells how far each federate was by the coordinator's report or log of this name, where that can be read, of a run of
-/// the files that were noted.
-pub(crate) fn print_standings<F: Files + Drop, E: Write>(
+/// these two files, which are read again.
+pub(crate) fn print_standings<F: Files, E: Write>(
     alloc: Global,
-    name: &str,
+    federation: &str,
     inputs: &str,
-    files: &mut NotedFiles<F>,
+    report: &str,
+    files: &mut F,
     err: &mut E,
 ) {
-    let Ok(bytes) = files.bytes(name, LONGEST_REPORT) else {
+    let Some(digests) = digests_of(alloc, federation, inputs, files) else {
         return;
     };
-    let noted = files.noted();
-    let Some(digests) = digests_of(inputs, noted) else {
+    let Ok(bytes) = files.bytes(report, LONGEST_REPORT) else {
         return;
     };
     let Ok(journal) = read_coordinator(alloc, &digests, bytes.as_slice()) else {
         return;
     };
-    let Some(plan) = plan_of(alloc, noted) else {
+    let Some(plan) = plan_of(alloc, federation, files) else {
         return;
     };
     let Ok(standings) = standings_in(alloc, plan.federate_count(), &journal) else {
@@ -77,14 +77,20 @@ pub(crate) fn print_standings<F: Files + Drop, E: Write>(
     }
 }
 
-// The digests of the federation file and of this input file, which were asked for first; `-` is one without any bytes.
-fn digests_of(inputs: &str, noted: &[NotedFile]) -> Option<FileDigests> {
-    let federation = noted.first()?.bytes.as_ref()?;
-    if inputs == "-" {
-        return Some(FileDigests::new(federation.as_slice(), &[]));
-    }
-    let recorded = noted.get(1)?.bytes.as_ref()?;
-    Some(FileDigests::new(federation.as_slice(), recorded.as_slice()))
+// The digests of the federation file and of this input file; `-` is one without any bytes.
+fn digests_of<F: Files>(
+    alloc: Global,
+    federation: &str,
+    inputs: &str,
+    files: &mut F,
+) -> Option<FileDigests> {
+    let federation = files.bytes(federation, MOST_BYTES).ok()?;
+    let inputs = if inputs == "-" {
+        Vec::new(alloc)
+    } else {
+        files.bytes(inputs, MOST_INPUT_BYTES).ok()?
+    };
+    Some(FileDigests::new(federation.as_slice(), inputs.as_slice()))
 }
 
 // What a coordinator heard of this many federates, by its journal.

@@ -1,4 +1,4 @@
-ghost use Rattle.std.specs.Prelude.{◌≡◌, ◌≤◌, MatchOption, OnOk};
+ghost use Rattle.std.specs.Prelude.{◌≡◌, ◌≤◌, IfSome, MatchOption, OnOk};
 ghost use Rattle.fedrun_words.specs.Faults.{status_of, printed_fault};
 ghost use Rattle.fedrun_words.specs.Lines.{line_of};
 ghost use Rattle.fedrun_words.specs.Pieces.{AppendsPrefix};
@@ -86,8 +86,8 @@ pub fn node_answer<
     ensures statuses { result.status ≤ 3 }
     ensures fault { MatchOption result.fault (result.status ≡ 0) (λ fault.
         (result.status ≡ status_of host_status fault)
-        × AppendsPrefix (E.contents err.old) (E.contents err.new)
-        (line_of (printed_fault printed_host_fault fault))) }
+        × IfSome (printed_fault printed_host_fault fault)
+        (λ text. AppendsPrefix (E.contents err.old) (E.contents err.new) (line_of text))) }
 {
     match perform(rt, rt.alloc(), words, files, disk, logs, out, teller) {
         Ok(()) => NodeAnswer {

@@ -42,7 +42,7 @@ use std::random::RandomSource;
 use std::sync::Wait;
 use std::time::{Clock, Duration};
 use wires::{
-    CoordinatorLines, NetRuntime, RunFault, WorkerResult, channels, counts_of, gather_desk,
+    CoordinatorLines, NetRuntime, NodeResults, RunFault, channels, counts_of, gather_desk,
     run_coordinator,
 };
 use wires_hosts::{
@@ -175,7 +175,7 @@ fn ran_reporting<'n, R: NetRuntime + RandomSource>(
     };
     let shared = Shared::new(desk);
     let results = run_listening(rt, alloc, node, loaded, listener, &shared, &NoBarrier)?;
-    gather_desk(alloc, shared, results)
+    gather_desk(shared, results.shares)
 }
 
 // Runs the coordinator with a log, from where that ends.
@@ -304,7 +304,7 @@ fn ran_logging<'n, 'a, R: NetRuntime + RandomSource, V: Device + Drop + Send>(
         Ok(file) => file,
         Err(why) => return Err(fault_of(node.report, why)),
     };
-    match is_finished(alloc, replayed, results) {
+    match is_finished(replayed, results) {
         Ok(true) => Ok(file),
         Ok(false) => Err(not_finished()),
         Err(why) => Err(fault_of_run(why)),
@@ -314,11 +314,10 @@ fn ran_logging<'n, 'a, R: NetRuntime + RandomSource, V: Device + Drop + Send>(
 // Whether the coordinator is finished after its run, of which its workers left these, and after what was handed in
 // before.
 fn is_finished(
-    alloc: Global,
     replayed: Replayed<Coordinator<'_>>,
-    results: Result<Vec<WorkerResult>, RunFault>,
+    results: Result<NodeResults, RunFault>,
 ) -> Result<bool, RunFault> {
-    let desk = gather_replayed(alloc, replayed, results?)?;
+    let desk = gather_replayed(replayed, results?.shares)?;
     Ok(desk.station().node().finished())
 }
 
@@ -434,7 +433,7 @@ fn run_listening<'n, R: NetRuntime + RandomSource, B: Barrier + Sync>(
     listener: TcpListener,
     shared: &Shared<Coordinator<'n>>,
     barrier: &B,
-) -> Result<Vec<WorkerResult>, RunFault> {
+) -> Result<NodeResults, RunFault> {
     let look = CoordinatorLook {
         shared,
         stop: loaded.sources.plan.stop_time(),
@@ -444,7 +443,7 @@ fn run_listening<'n, R: NetRuntime + RandomSource, B: Barrier + Sync>(
     // What is said of its end stands below nothing that is wiped.
     loaded.teller.wipe(rt, alloc);
     if let Ok(left) = &results {
-        let counts = counts_of(left);
+        let counts = counts_of(&left.workers);
         loaded
             .teller
             .measure(rt, rt, Moment::CoordinatorRan(counts));
@@ -462,7 +461,7 @@ fn run_watched<'n, R: NetRuntime + RandomSource, B: Barrier + Sync, L: Look + Se
     shared: &Shared<Coordinator<'n>>,
     barrier: &B,
     look: L,
-) -> Result<Vec<WorkerResult>, RunFault> {
+) -> Result<NodeResults, RunFault> {
     let count = loaded.sources.plan.federate_count();
     let heard = Heard::watched(alloc, count, loaded.teller.another())?;
     let barrier = Lent { barrier };

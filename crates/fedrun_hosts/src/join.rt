@@ -155,7 +155,7 @@ fn join_reporting<
         Ok(run) => run,
         Err(why) => return Err(fault_of_run(why)),
     };
-    let desk = match gather_desk(alloc, shared, results) {
+    let desk = match gather_desk(shared, results.shares) {
         Ok(desk) => desk,
         Err(why) => return Err(fault_of_run(why)),
     };
@@ -310,7 +310,7 @@ fn ran_logging<'n, 'a, R: NetRuntime + RandomSource, V: Device + Drop + Send>(
         Ok(file) => file,
         Err(why) => return Err(fault_of(joined.node.report, why)),
     };
-    match hears_finished(rt, alloc, replayed, run, heard) {
+    match hears_finished(rt, replayed, run, heard) {
         Ok(()) => Ok(file),
         Err(fault) => Err(fault),
     }
@@ -319,12 +319,11 @@ fn ran_logging<'n, 'a, R: NetRuntime + RandomSource, V: Device + Drop + Send>(
 // Why a federate's run isn't finished that left this, besides what was handed in before.
 fn hears_finished<'a, R: Wait>(
     rt: &R,
-    alloc: Global,
     replayed: Replayed<Federate<'_>>,
     run: Result<FederateRun, RunFault>,
     heard: &Heard,
 ) -> Result<(), Fault<'a, HostFault<'a>>> {
-    let shows = match shows_other_history(alloc, replayed, run) {
+    let shows = match shows_other_history(replayed, run) {
         Ok(shows) => shows,
         Err(why) => return Err(fault_of_run(why)),
     };
@@ -337,7 +336,6 @@ fn hears_finished<'a, R: Wait>(
 // Whether the coordinator spoke of another history, in a run that left what its desk says besides what was handed in
 // before.
 fn shows_other_history(
-    alloc: Global,
     replayed: Replayed<Federate<'_>>,
     run: Result<FederateRun, RunFault>,
 ) -> Result<bool, RunFault> {
@@ -345,7 +343,7 @@ fn shows_other_history(
         results,
         shows_other_history,
     } = run?;
-    gather_replayed(alloc, replayed, results)?;
+    gather_replayed(replayed, results.shares)?;
     Ok(shows_other_history)
 }
 
@@ -392,7 +390,7 @@ fn run_joined<'n, R: NetRuntime + RandomSource, B: Barrier + Sync>(
     // What is said of its end stands below nothing that is wiped.
     loaded.teller.wipe(rt, alloc);
     if let Ok(left) = &run {
-        let counts = counts_of(&left.results);
+        let counts = counts_of(&left.results.workers);
         loaded.teller.measure(rt, rt, Moment::FederateRan(counts));
     }
     run

@@ -40,7 +40,7 @@ pub(crate) fn reports_by<'a, H: Node, M: Reporting>(
 ) -> Result<NodeReports<'a>, AuditedFault>
     requires each { length nodes.federates.items ≡ federate_count plan.now }
     ensures ok { IfOk result (λ asked.
-        IsOkAnd results (λ left. AreReported H.core H.IS_COORDINATOR M.core M.IS_COORDINATOR M.tells left
+        IsOkAnd results (λ left. AreReported H.core H.HUB M.core M.HUB M.tells left
         asked.reports.reports
         asked.coordinator)) }
     ensures text { IfOk result (λ asked.
@@ -117,7 +117,7 @@ fn reports_of<'a, M: Reporting>(
     desks: Vec<Desk<M>>,
 ) -> Result<Collector<'a>, ReportFault>
     requires each { length desks.items ≡ federate_count plan.now }
-    ensures ok { IfOk result (λ collected. AreReportsOf M.core M.IS_COORDINATOR M.tells desks.items collected.reports) }
+    ensures ok { IfOk result (λ collected. AreReportsOf M.core M.HUB M.tells desks.items collected.reports) }
     ensures memory { IfErr result (λ fault. fault ≡ ReportFault.Memory) }
 {
     let mut reports = Collector::new(alloc, plan);
@@ -143,7 +143,7 @@ fn add(reports: &mut Collector<'_>, report: Report) -> Result<(), ReportFault>
 
 // What a federate's desk says: the node's rows, and the journal.
 fn report<M: Reporting>(federate: usize, desk: Desk<M>) -> Report
-    ensures { IsReportOf M.core M.IS_COORDINATOR M.tells federate desk result }
+    ensures { IsReportOf M.core M.HUB M.tells federate desk result }
 {
     let (station, journal) = desk.into_parts();
     station.into_node().report(federate, journal)

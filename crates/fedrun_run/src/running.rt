@@ -84,7 +84,7 @@ fn run_and_ask<'a, R: NetRuntime, H: Node + Send, M: Reporting + Send, P: Progre
     ensures audit { result.0 ≡ audit.entry }
     ensures reported { IfOk result.1
         (λ asked. (left : IsLeft)
-        × AreReported H.core H.IS_COORDINATOR M.core M.IS_COORDINATOR M.tells left asked.reports.reports asked.coordinator) }
+        × AreReported H.core H.HUB M.core M.HUB M.tells left asked.reports.reports asked.coordinator) }
     ensures text { IfOk result.1 (λ asked.
         IfSome asked.text (λ text. IsTextOf output plan.now asked.reports.reports text.items)) }
     ensures fault { IfErr result.1 IsOfTheRun }
@@ -142,7 +142,7 @@ fn take_apart<'a, R: Threads + Sync, H: Node + Send, M: Reporting + Send>(
     ensures audit { result.0 ≡ audit.entry }
     ensures reported { IfOk result.1
         (λ asked. IsOkAnd results (λ left.
-        AreReported H.core H.IS_COORDINATOR M.core M.IS_COORDINATOR M.tells left asked.reports.reports asked.coordinator)) }
+        AreReported H.core H.HUB M.core M.HUB M.tells left asked.reports.reports asked.coordinator)) }
     ensures text { IfOk result.1 (λ asked.
         IfSome asked.text (λ text. IsTextOf output plan.now asked.reports.reports text.items)) }
     ensures fault { IfErr result.1 IsOfTheRun }
@@ -159,7 +159,7 @@ fn take_apart<'a, R: Threads + Sync, H: Node + Send, M: Reporting + Send>(
             requires { length nodes.federates.items ≡ federate_count plan.now }
             ensures reported { IfOk result
                 (λ asked. IsOkAnd results (λ left.
-                AreReported H.core H.IS_COORDINATOR M.core M.IS_COORDINATOR M.tells left asked.reports.reports asked.coordinator)) }
+                AreReported H.core H.HUB M.core M.HUB M.tells left asked.reports.reports asked.coordinator)) }
             ensures text { IfOk result (λ asked.
                 IfSome asked.text (λ text. IsTextOf output plan.entry.now asked.reports.reports text.items)) }
             ensures fault { IfErr result IsOfTheRun }

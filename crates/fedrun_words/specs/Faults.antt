@@ -1,13 +1,13 @@
 -- The program's faults: the exit status that goes with each, and how it is printed. Of the faults that a program has
 -- beside these it is said by the program.
-use Rattle.std.specs.Prelude.{ℕ, List, ◌++◌, codes}
+use Rattle.std.specs.Prelude.{ℕ, List, Option, None, Some}
 use Rattle.loadfed.specs.Numbers as tables
 use Rattle.loadfed.specs.declared.fault.LoadFault.TheVariants as load
 use Rattle.reactor_program.specs.ProgramFaults as program
 use Rattle.files_text.specs.Memory.{memory_text}
 use Rattle.fedrun_words.specs.declared.reading.WordsFault.{WordsFault}
 use Rattle.fedrun_words.specs.declared.reading.WordsFault.TheVariants as words
-use Rattle.fedrun_words.specs.Usage.{usage_status, usage_text}
+use Rattle.fedrun_words.specs.Usage.{usage_status}
 use Rattle.fedrun_words.specs.declared.fault.Fault.{Fault}
 use Rattle.fedrun_words.specs.declared.fault.Fault.TheVariants.{Usage, CannotRead, Load, CannotWrite, Turns, Print}
 use Rattle.fedrun_words.specs.declared.fault.Fault.TheVariants.{More}
@@ -23,15 +23,16 @@ status_of more (Turns memory) = 3
 status_of more (Print memory) = 3
 status_of more (More fault) = more fault
 
--- how a fault is printed; what a library answered is printed as the library has it
-abbrev pub printed_fault : {M : Type 0} → (M → List ℕ) → Fault M → List ℕ
-printed_fault more Usage = usage_text
-printed_fault more (CannotRead name) = codes "cannot read " ++ name.now
-printed_fault more (Load fault) = tables.printed_fault fault
-printed_fault more CannotWrite = codes "cannot write"
-printed_fault more (Turns memory) = program.printed_memory
-printed_fault more (Print memory) = memory_text
-printed_fault more (More fault) = more fault
+-- how a fault is printed that a library answered, or that a program has beside these: as it is printed there. Of the
+-- messages that are the program's own it isn't said
+abbrev pub printed_fault : {M : Type 0} → (M → List ℕ) → Fault M → Option (List ℕ)
+printed_fault more Usage = None
+printed_fault more (CannotRead name) = None
+printed_fault more (Load fault) = Some (tables.printed_fault fault)
+printed_fault more CannotWrite = None
+printed_fault more (Turns memory) = Some program.printed_memory
+printed_fault more (Print memory) = Some memory_text
+printed_fault more (More fault) = Some (more fault)
 
 -- the fault of words that give no request
 abbrev pub fault_of_words : {M : Type 0} → WordsFault → Fault M

@@ -3,28 +3,36 @@ ghost use Rattle.std.specs.Prelude.{◌≡◌, ◌≢◌, ◌≤◌};
 use crate::more::MoreFault;
 use crate::reading::WordsFault;
 use loadfed::LoadFault;
-use std::error::Error;
 use std::fmt;
+use thiserror::Error;
 
 /// What a program prints on standard error when it gives up. What a library answered is kept as it is, and printed as
 /// the library has it.
-#[derive(Drop)]
+#[derive(Drop, Error)]
+#[error_bound(M: MoreFault)]
 pub enum Fault<'a, M> {
     /// The words are no command: whoever gave them corrects them.
+    #[error("usage")]
     Usage,
     /// The file of this name isn't there, or can't be read: its owner makes it readable, or another name is given.
     /// Nothing was printed.
+    #[error("cannot read {0}")]
     CannotRead(&'a str),
     /// The federation or the recorded inputs aren't taken, and the inner fault says why; or an allocation failed before
     /// all was loaded. Nothing was printed.
+    #[error(transparent)]
     Load(LoadFault),
     /// Standard output takes no more. What was printed before stands.
+    #[error("cannot write")]
     CannotWrite,
     /// No memory for a turn. The same command may be given again, with fewer turns.
+    #[error(transparent)]
     Turns(reactor::Memory),
     /// No memory for the text of a plan. The same command may be given again.
+    #[error(transparent)]
     Print(files_text::Memory),
     /// One of the program's further commands isn't done.
+    #[error(transparent)]
     More(M),
 }
 
@@ -60,30 +68,9 @@ impl<M: MoreFault> Fault<'_, M> {
     }
 }
 
-impl<M: MoreFault> Error for Fault<'_, M> {}
-
 /// As it is displayed.
 impl<M: MoreFault> fmt::Debug for Fault<'_, M> {
     fn fmt<W: fmt::Write>(&self, f: &mut fmt::Formatter<W>) -> fmt::Result {
         fmt::Display::fmt(self, f)
-    }
-}
-
-impl<M: MoreFault> fmt::Display for Fault<'_, M> {
-    ghost use Rattle.std.specs.Prelude.{Some};
-    ghost use Rattle.fedrun_words.specs.Faults.{printed_fault};
-
-    ghost output = { λ fault. Some (printed_fault M.printed_fault fault) };
-
-    fn fmt<W: fmt::Write>(&self, f: &mut fmt::Formatter<W>) -> fmt::Result {
-        match self {
-            Fault::Usage => write!(f, "usage"),
-            Fault::CannotRead(name) => write!(f, "cannot read {name}"),
-            Fault::Load(fault) => write!(f, "{fault}"),
-            Fault::CannotWrite => write!(f, "cannot write"),
-            Fault::Turns(memory) => write!(f, "{memory}"),
-            Fault::Print(memory) => write!(f, "{memory}"),
-            Fault::More(fault) => write!(f, "{fault}"),
-        }
     }
 }

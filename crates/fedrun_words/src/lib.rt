@@ -7,11 +7,12 @@
 //! memory has to be printed too.
 //!
 //! Promise to the layer above: every request is one of `Request`, and every other list of words is a fault. That a
-//! request is the words' is shown by tests, in the crate `tests_fedrun_words`. The status and the text of each fault
-//! are those of `specs/Faults`. Whatever a writer refuses, what it gains is a prefix of the text, and all of it where
-//! that is said (`specs/Pieces`); the same of the program's line with that text (`specs/Lines`), and so of a fault's
-//! line (`refuse`). Begin with `request.rt`, then `read_words` in `reading.rt`; for faults with `Fault`, then `refuse`;
-//! for texts with `print_line`, then `print_text`.
+//! request is the words' is shown by tests, in the crate `tests_fedrun_words`. The status of each fault is that of
+//! `specs/Faults`. Whatever a writer refuses, what it gains is a prefix of the text, and all of it where that is said
+//! (`specs/Pieces`); the same of the program's line with that text (`specs/Lines`), and so of the line of a fault that
+//! was answered to the program (`refuse`). What `thiserror` derives of its own messages is shown by tests. Begin with
+//! `request.rt`, then `read_words` in `reading.rt`; for faults with `Fault`, then `refuse`; for texts with `print_line`,
+//! then `print_text`.
 #![tactic(auto)]
 
 pub mod commands;

@@ -1,4 +1,4 @@
-ghost use Rattle.std.specs.Prelude.{◌≡◌, ◌≢◌, ◌≤◌};
+ghost use Rattle.std.specs.Prelude.{◌≡◌, ◌≢◌, ◌≤◌, IfSome};
 ghost use Rattle.fedrun_words.specs.Faults.{status_of, printed_fault};
 ghost use Rattle.fedrun_words.specs.Lines.{line_of};
 ghost use Rattle.fedrun_words.specs.Pieces.{AppendsPrinted};
@@ -22,12 +22,27 @@ pub fn refuse<M: MoreFault, E: Write>(fault: &Fault<'_, M>, err: &mut E) -> Answ
     ensures status { result.status ≡ status_of M.status_of fault.now }
     ensures failure { result.status ≢ 0 }
     ensures statuses { result.status ≤ 3 }
-    ensures line { AppendsPrinted result.is_printed (E.contents err.old) (E.contents err.new)
-        (line_of (printed_fault M.printed_fault fault.now)) }
+    ensures line { IfSome (printed_fault M.printed_fault fault.now)
+        (λ text. AppendsPrinted result.is_printed (E.contents err.old) (E.contents err.new) (line_of text)) }
 {
-    let is_printed = print_line(err, fault);
+    let is_printed = print_fault(fault, err);
     Answered {
         status: fault.status(),
         is_printed,
+    }
+}
+
+// Prints a fault's line, and says whether all of it was written. What was answered to the program prints itself: no
+// clause can name a text that is derived.
+fn print_fault<M: MoreFault, E: Write>(fault: &Fault<'_, M>, err: &mut E) -> bool
+    ensures { IfSome (printed_fault M.printed_fault fault.now)
+        (λ text. AppendsPrinted result (E.contents err.old) (E.contents err.new) (line_of text)) }
+{
+    match fault {
+        Fault::Load(inner) => print_line(err, inner),
+        Fault::Turns(inner) => print_line(err, inner),
+        Fault::Print(inner) => print_line(err, inner),
+        Fault::More(inner) => print_line(err, inner),
+        Fault::Usage | Fault::CannotRead(_) | Fault::CannotWrite => print_line(err, fault),
     }
 }

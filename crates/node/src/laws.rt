@@ -18,12 +18,12 @@ pub fn nothing_needs_no_room()
 #[tactic(none)]
 pub fn steps_go_on<N: Node>()
     ensures { (s : Station N) (event : Event)
-        → GoesOn N.core s.node (step_of N.core N.IS_COORDINATOR s event).station.node }
+        → GoesOn N.core s.node (step_of N.core N.HUB s event).station.node }
 {}
 
 /// Through every step a station's initial state stays.
 #[tactic(none)]
 pub fn initial_stations_stay<N: Node>()
     ensures { (s : Station N) (event : Event)
-        → initial_of N.core (step_of N.core N.IS_COORDINATOR s event).station ≡ initial_of N.core s }
+        → initial_of N.core (step_of N.core N.HUB s event).station ≡ initial_of N.core s }
 {}

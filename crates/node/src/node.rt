@@ -19,7 +19,7 @@ pub trait Node: Drop {
 
     ghost listed: { Self.Rows → List Self.Row };
 
-    ghost IS_COORDINATOR: { Bool };
+    ghost HUB: { Bool };
 
     /// Its step functions, of what a caller sees of it, which stands for the node itself in every clause.
     ghost core: { Core Self Self.Row };
@@ -63,7 +63,7 @@ pub trait Node: Drop {
 
     /// Whether it is the coordinator, which alone answers a Hello of another incarnation: by a Refuse.
     fn is_coordinator(&self) -> bool
-        ensures { result ≡ IS_COORDINATOR };
+        ensures { result ≡ HUB };
 
     /// Its history so far.
     fn rows(&self) -> &Self::Rows

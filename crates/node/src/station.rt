@@ -87,7 +87,7 @@ impl<N: Node> Station<N> {
     /// Makes one step. Without memory nothing has changed, and the same event may come again.
     pub fn step(&mut self, event: Event) -> Result<Reply, Memory>
         ensures ended { IfOk result (λ reply. record { station = self.new; answer = answer_in reply }
-            ≡ step_of N.core N.IS_COORDINATOR self.old event) }
+            ≡ step_of N.core N.HUB self.old event) }
         ensures unchanged { OnErr result (self.new ≡ self.old) }
     {
         match event {
@@ -113,7 +113,7 @@ impl<N: Node> Station<N> {
     // A frame of a peer.
     fn receive(&mut self, peer: usize, frame: &Frame) -> Result<Reply, Memory>
         ensures ended { IfOk result (λ reply. record { station = self.new; answer = answer_in reply }
-            ≡ frame_comes N.core N.IS_COORDINATOR self.old peer frame.now (slice_get self.old.ends peer)) }
+            ≡ frame_comes N.core N.HUB self.old peer frame.now (slice_get self.old.ends peer)) }
         ensures unchanged { OnErr result (self.new ≡ self.old) }
     {
         let alloc = self.outbox.alloc();

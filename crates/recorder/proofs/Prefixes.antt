@@ -49,6 +49,11 @@ all_begin known journals n all so place =
     (λ (past : n ≤ place). (get_or journals place [], rw (none_known known place (omega arith)) refl))
     (cases_lt place n)
 
+-- where all begin so, the journal at each place does
+pub begins_there : (known journals : List (List Event)) (k : ℕ) (events journal : List Event) → get_or known k [] ≡ events → get_or journals k [] ≡ journal →
+    GrewTo known journals → BeginsWith journal events
+begins_there known journals k events journal there whole grew = ((grew k).0, sym whole ∙ (grew k).1 ∙ ap (λ l. l ++ (grew k).0) there)
+
 -- a journal goes on with events
 pub added_at : {E : Type 0} (r : Result (Unit {0}) E) (known now : List (List Event)) (place count : ℕ) (before after events : List Event) → now ≡ set known place after →
     place < length known → before ≡ get_or known place before → count ≡ length events → OnOk r (after ≡ before ++ take count (drop 0 events)) →

@@ -1,5 +1,6 @@
 //! What is known of journals while their nodes still write them.
-ghost use Rattle.std.specs.Prelude.{◌≡◌, ◌↔◌, ◌++◌, [], map, set, get_or, true, IsTrue, IfOk, OnOk, OnErr};
+ghost use Rattle.std.specs.Prelude.{◌≡◌, ◌↔◌, ◌≤◌, ◌++◌, [], map, set, get_or, length, true, IsTrue, IfOk, OnOk};
+ghost use Rattle.std.specs.Prelude.{OnErr};
 ghost use Rattle.recorder_search.specs.Reading.{GrewTo};
 ghost use Rattle.network_laws.specs.Settled.{BeginsWith};
 
@@ -42,9 +43,10 @@ pub(crate) fn references_to(alloc: Global, known: &[Journal]) -> Result<Vec<&Jou
     Ok(journals)
 }
 
-/// Whether all that is known is a prefix of these journals.
+/// Whether all that is known is a prefix of these journals, each of the one at its place.
 pub(crate) fn are_prefixes(known: &[Journal], journals: &[&Journal]) -> bool
-    ensures { result ≡ true → GrewTo known.now (map (λ j. j.now) journals.now) }
+    ensures { (result ≡ true)
+        ↔ ((length known.now ≤ length journals.now) × GrewTo known.now (map (λ j. j.now) journals.now)) }
 {
     if known.len() > journals.len() {
         return false;

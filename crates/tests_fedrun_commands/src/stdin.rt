@@ -1,5 +1,4 @@
 //! What commands answer that have `-`, standard input, among their files.
-use crate::answers::ONE;
 use crate::reader::Pieces;
 use fedrun_files::MachineFiles;
 use std::io::{ErrorKind, Read};
@@ -7,6 +6,9 @@ use std::net::{Net, TcpListener, TcpStream};
 use std::rt;
 use tests_outcomes::{outcome_over, shown};
 use tests_samples::{COUNTER, Machine};
+
+/// A federation of one federate to which nothing happens.
+const ONE: &str = "stop = \"0\"\nfederate = [{ name = \"f\" }]\n";
 
 const FIRST_ROWS: &str = "src (0, 0) [t] -> [y=1]\nsnk (0, 0) [x=1] -> [total=1]\n";
 

@@ -16,10 +16,26 @@ use wires::Cause;
 use wires_greeting::SecretFault;
 use wires_hosts::DialFault;
 
-// Whether this is told of a fault of the command with this name, on a line.
-fn is_advised<'a>(alloc: Global, command: &str, fault: NodeFault<'a>, advice: &str) -> bool {
+/// Words of an audit, of a run and of a node.
+const AUDIT: &[&str] = &["audit", "f", "-", "c", "s"];
+
+const RUN: &[&str] = &["run", "f", "-"];
+
+const JOIN: &[&str] = &[
+    "join",
+    "f",
+    "-",
+    "src",
+    "--connect",
+    "127.0.0.1:1",
+    "--report",
+    "r",
+];
+
+// Whether this is told of a fault of the command with these words, on a line.
+fn is_advised<'a>(alloc: Global, words: &[&str], fault: NodeFault<'a>, advice: &str) -> bool {
     let mut files = no_files(alloc);
-    let told = told_of_command(alloc, &[command], Fault::More(fault), &mut files);
+    let told = told_of_command(alloc, words, &Fault::More(fault), &mut files);
     match format!(in alloc; "help: {advice}\n") {
         Ok(text) => is_told(&told, text.as_str()),
         Err(_) => false,
@@ -96,14 +112,14 @@ fn tells_what_to_do_about_reports_and_runs(rt: HostRuntime) {
     let alloc = rt.alloc();
     for (fault, advice) in REPORTS {
         let fault = NodeFault::ReportFile("a.report", *fault);
-        assert!(rt; is_advised(alloc, "audit", fault, advice), "{advice}");
+        assert!(rt; is_advised(alloc, AUDIT, fault, advice), "{advice}");
     }
     for (cause, advice) in RUNS {
         let fault = NodeFault::NotFinished(*cause);
-        assert!(rt; is_advised(alloc, "run", fault, advice), "{advice}");
+        assert!(rt; is_advised(alloc, RUN, fault, advice), "{advice}");
     }
     let unproved = NodeFault::Unproved(AuditFailure::Double);
-    assert!(rt; is_advised(alloc, "audit", unproved, UNPROVED));
+    assert!(rt; is_advised(alloc, AUDIT, unproved, UNPROVED));
     assert!(rt; is_stuck_advised(alloc));
     assert!(rt; is_mismatch_advised(alloc));
 }
@@ -125,7 +141,7 @@ fn is_stuck_advised(alloc: Global) -> bool {
     match name(alloc) {
         Some(node) => {
             let stuck = NodeFault::Unproved(AuditFailure::Stuck { node, event: 3 });
-            is_advised(alloc, "audit", stuck, STUCK)
+            is_advised(alloc, AUDIT, stuck, STUCK)
         }
         None => false,
     }
@@ -136,7 +152,7 @@ fn is_mismatch_advised(alloc: Global) -> bool {
     match name(alloc) {
         Some(federate) => {
             let mismatch = NodeFault::Unproved(AuditFailure::Mismatch { federate, row: 1 });
-            is_advised(alloc, "audit", mismatch, MISMATCH)
+            is_advised(alloc, AUDIT, mismatch, MISMATCH)
         }
         None => false,
     }
@@ -208,7 +224,7 @@ const NODES: &[(HostFault<'static>, &str)] = &[
 // Whether this is told of a node's fault, on a line.
 fn is_node_advised(alloc: Global, fault: &HostFault<'_>, advice: &str) -> bool {
     let mut files = no_files(alloc);
-    let told = told_of_node(alloc, &["join"], *fault, &mut files);
+    let told = told_of_node(alloc, JOIN, *fault, &mut files);
     match format!(in alloc; "help: {advice}\n") {
         Ok(text) => is_told(&told, text.as_str()),
         Err(_) => false,
@@ -245,8 +261,7 @@ const STATS: &[(SaveFault, &str)] = &[
 
 // Whether this is told of the file of `--stats`, on a line.
 fn is_stats_advised(alloc: Global, why: SaveFault, advice: &str) -> bool {
-    let files = no_files(alloc);
-    let told = told_of_stats(alloc, why, &files);
+    let told = told_of_stats(alloc, why);
     match format!(in alloc; "help: {advice}\n") {
         Ok(text) => is_told(&told, text.as_str()),
         Err(_) => false,

@@ -1,12 +1,9 @@
 //! Nodes that can't listen at their address, or aren't finished: why, and how far federates were.
 use crate::told::{is_told, no_files, told_of_command, told_of_node};
 use fedrun_commands::NodeFault;
-use fedrun_files::Files;
-use fedrun_hints::NotedFiles;
 use fedrun_hosts::{HostFault, ListenFault, Unfinished};
 use fedrun_words::Fault;
 use files_reports::{FileDigests, NodeReport, write_report};
-use loadfed::MOST_BYTES;
 use node::Event;
 use node_journal::Journal;
 use signal::{Frame, Hello, Signal};
@@ -254,8 +251,7 @@ fn report(alloc: Global) -> Option<Vec<u8>> {
 fn told_of_coordinator(alloc: Global, words: &[&str], name: &str) -> Option<String> {
     let report = report(alloc)?;
     let named = [("f", FEDERATION.as_bytes()), (name, report.as_slice())];
-    let mut files = NotedFiles::new(alloc, NamedFiles::new(alloc, &named), true);
-    let _read = files.bytes("f", MOST_BYTES).ok()?;
+    let mut files = NamedFiles::new(alloc, &named);
     let why = Unfinished::OutOfPatience(None);
     told_of_node(alloc, words, HostFault::NotFinished(why), &mut files)
 }
@@ -274,10 +270,9 @@ const UNREAD: &str =
 fn told_of_audit(alloc: Global) -> Option<String> {
     let report = report(alloc)?;
     let named = [("f", FEDERATION.as_bytes()), ("c", report.as_slice())];
-    let mut files = NotedFiles::new(alloc, NamedFiles::new(alloc, &named), true);
-    let _read = files.bytes("f", MOST_BYTES).ok()?;
+    let mut files = NamedFiles::new(alloc, &named);
     let fault = Fault::More(NodeFault::NotFinished(Cause::TurnsUsedUp));
-    told_of_command(alloc, &["audit", "f", "-", "c", "s"], fault, &mut files)
+    told_of_command(alloc, &["audit", "f", "-", "c", "s"], &fault, &mut files)
 }
 
 const AUDIT: &str =

@@ -1,20 +1,12 @@
-//! Tests of hints: what is told behind the line of a fault, over files in memory, each with its exact lines. What is
-//! told of words is tested in `tests_fedrun_help`, what `lint` finds in `tests_fedrun_lint`.
+//! Tests of hints on faults that no words bring about over files in memory: constructed faults, each with what is told.
+//! What is told of files and of words stands in the cases `hints.case` and `hints-words.case`.
 //!
-//! Begin with `commands`, then `told_of_command` in `told`.
+//! Begin with `told_of_command` in `told`.
 #![tactic(auto)]
 
 #[cfg(test)]
 mod advice;
 #[cfg(test)]
-mod commands;
-#[cfg(test)]
 mod ends;
-#[cfg(test)]
-mod files;
-#[cfg(test)]
-mod noted;
-#[cfg(test)]
-mod schedules;
 #[cfg(test)]
 mod told;

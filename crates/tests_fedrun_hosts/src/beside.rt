@@ -1,14 +1,12 @@
 //! The file beside a report's name: who has it, and what becomes of it where the report is there.
-use crate::nodes::{ANY, NOBODY, NOT_FINISHED};
+use crate::nodes::{ANY, Host, NOBODY, NOT_FINISHED};
 use crate::runs::{ALL, COORDINATOR, Node, SRC, run};
 use crate::shared_files::SharedFiles;
 use crate::spoken::{Until, heard};
 use crossbeam_channel::{Receiver, unbounded};
 use std::net::{Net, TcpListener, TcpStream};
-use std::random::RandomSource;
 use std::sync::Wait;
 use std::thread;
-use tests_samples::Machine;
 
 /// A coordinator that keeps no log, and gives up after a second.
 const NO_LOG: Node<'static> = Node {
@@ -39,7 +37,7 @@ fn kill<R: Wait>(rt: &R, files: &SharedFiles, killed: &SharedFiles) -> Option<()
 
 // Whether a node with a log is refused while a coordinator runs without one that says this, and where that one was
 // killed in the midst.
-fn are_refused<R: Machine + Net<Stream = TcpStream, Listener = TcpListener> + RandomSource>(
+fn are_refused<R: Host + Net<Stream = TcpStream, Listener = TcpListener>>(
     rt: &R,
     files: &SharedFiles,
     killed: &SharedFiles,
@@ -52,7 +50,7 @@ fn are_refused<R: Machine + Net<Stream = TcpStream, Listener = TcpListener> + Ra
 }
 
 // Whether both are, and the coordinator's report is that of one that had its folder for itself.
-fn is_kept<R: Machine + Net<Stream = TcpStream, Listener = TcpListener> + RandomSource>(
+fn is_kept<R: Host + Net<Stream = TcpStream, Listener = TcpListener>>(
     rt: &R,
     files: &SharedFiles,
     killed: &SharedFiles,
@@ -67,7 +65,7 @@ fn is_kept<R: Machine + Net<Stream = TcpStream, Listener = TcpListener> + Random
 }
 
 // Whether the report of a coordinator is that of another one, which had its folder for itself.
-fn is_undisturbed<R: Machine + Net<Stream = TcpStream, Listener = TcpListener> + RandomSource>(
+fn is_undisturbed<R: Host + Net<Stream = TcpStream, Listener = TcpListener>>(
     rt: &R,
     files: &SharedFiles,
     own: &SharedFiles,
@@ -102,7 +100,7 @@ const BESIDE: &[(&str, usize, bool)] = &[
 
 // Whether `src` says that the run is finished which has its log, and the file beside it is as it was, if it stays, or
 // gone.
-fn stays<R: Machine + Net<Stream = TcpStream, Listener = TcpListener> + RandomSource>(
+fn stays<R: Host + Net<Stream = TcpStream, Listener = TcpListener>>(
     rt: &R,
     files: &SharedFiles,
     name: &str,
@@ -122,7 +120,7 @@ fn stays<R: Machine + Net<Stream = TcpStream, Listener = TcpListener> + RandomSo
 }
 
 // The place of the first of which it is otherwise; none where there is none, and the nodes' run was finished.
-fn first_wrong<R: Machine + Net<Stream = TcpStream, Listener = TcpListener> + RandomSource>(
+fn first_wrong<R: Host + Net<Stream = TcpStream, Listener = TcpListener>>(
     rt: &R,
     files: &SharedFiles,
 ) -> Option<Option<usize>> {

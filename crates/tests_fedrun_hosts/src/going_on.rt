@@ -1,12 +1,11 @@
 //! Nodes that keep logs: that they go on by the same words, and what they do where they are finished.
-use crate::nodes::{ANY, NOBODY, NOT_FINISHED, address_of};
+use crate::nodes::{ANY, Host, NOBODY, NOT_FINISHED, address_of};
 use crate::runs::{ALL, COORDINATOR, END, Node, SNK, SRC, are_proved, end_alone, run};
 use crate::shared_files::SharedFiles;
 use std::net::{Net, TcpListener, TcpStream};
-use std::random::RandomSource;
 use std::sync::Wait;
+use tests_samples::COUNTER;
 use tests_samples::worked_rows::COUNTER_ROWS;
-use tests_samples::{COUNTER, Machine};
 use wires_transports::listen;
 
 /// The bytes of a log's head.
@@ -32,7 +31,7 @@ const ALL_BY_SYSTEM: &[Node<'static>] = &[
 ];
 
 // Whether the logs of the counter's nodes are there alone, and an audit proves its rows.
-fn is_proved<R: Machine + Net<Stream = TcpStream, Listener = TcpListener> + RandomSource>(
+fn is_proved<R: Host + Net<Stream = TcpStream, Listener = TcpListener>>(
     rt: &R,
     files: &SharedFiles,
 ) -> Option<bool> {
@@ -41,7 +40,7 @@ fn is_proved<R: Machine + Net<Stream = TcpStream, Listener = TcpListener> + Rand
 
 // Whether nodes with logs leave logs that have their ends, by which an audit proves the rows, and say at once that the
 // run is finished where they are begun again: by the whole log, and by one that was killed right before its end.
-fn end_with_logs<R: Machine + Net<Stream = TcpStream, Listener = TcpListener> + RandomSource>(
+fn end_with_logs<R: Host + Net<Stream = TcpStream, Listener = TcpListener>>(
     rt: &R,
     nodes: &[Node<'_>],
 ) -> Option<bool> {
@@ -83,7 +82,7 @@ const STOPPED: &[Node<'static>] = &[
 ];
 
 // Whether nodes that gave up, since `src` made three turns alone, go on by the same words, and end as others do.
-fn go_on<R: Machine + Net<Stream = TcpStream, Listener = TcpListener> + RandomSource>(
+fn go_on<R: Host + Net<Stream = TcpStream, Listener = TcpListener>>(
     rt: &R,
     files: &SharedFiles,
 ) -> Option<bool> {
@@ -145,7 +144,7 @@ fn before_told(log: &[u8]) -> Option<usize> {
 }
 
 // An address at which nobody listens, as long as no other process is given it.
-fn free_address<R: Machine + Net<Stream = TcpStream, Listener = TcpListener>>(
+fn free_address<R: Host + Net<Stream = TcpStream, Listener = TcpListener>>(
     rt: &R,
 ) -> Option<String> {
     let listener = listen(rt).ok()?;
@@ -154,7 +153,7 @@ fn free_address<R: Machine + Net<Stream = TcpStream, Listener = TcpListener>>(
 
 // Whether `src`, which was killed before it heard that the run is finished, hears it of a coordinator that is begun
 // again, and of nobody else.
-fn hears_later<R: Machine + Net<Stream = TcpStream, Listener = TcpListener> + RandomSource>(
+fn hears_later<R: Host + Net<Stream = TcpStream, Listener = TcpListener>>(
     rt: &R,
     files: &SharedFiles,
 ) -> Option<bool> {
@@ -174,7 +173,7 @@ fn a_finished_coordinator_that_is_begun_again_tells_a_federate_that_was_down(rt:
 }
 
 // Whether a finished coordinator ends at once where another one listens at its address, and says what it has to.
-fn ends_at_once<R: Machine + Net<Stream = TcpStream, Listener = TcpListener> + RandomSource>(
+fn ends_at_once<R: Host + Net<Stream = TcpStream, Listener = TcpListener>>(
     rt: &R,
     files: &SharedFiles,
 ) -> Option<bool> {

@@ -12,8 +12,6 @@ mod beside;
 #[cfg(test)]
 mod going_on;
 #[cfg(test)]
-mod lines;
-#[cfg(test)]
 mod logged;
 #[cfg(test)]
 mod measured;

@@ -1,21 +1,18 @@
 //! Nodes that keep logs, on the machine's disk: which ones they refuse, and leave as they are.
-use crate::nodes::{End, NOT_FINISHED, ends};
+use crate::nodes::{End, Host, NOT_FINISHED, ends};
 use fedrun_logs::MachineLogs;
 use files_keeping::{Device, KeptBy, MachineDevice};
 use files_saving::MachineDisk;
 use std::fs::File;
 use std::net::{Net, TcpListener, TcpStream};
-use std::random::RandomSource;
 use std::{fs, rt};
-use tests_samples::Machine;
 
 // Whether a node ends so that is given these words.
-fn ends_here<
-    R: Machine
-        + Net<Stream = TcpStream, Listener = TcpListener>
-        + RandomSource
-        + rt::Files<File = File>,
->(rt: &R, texts: &[&str], end: End<'_>) -> bool {
+fn ends_here<R: Host + Net<Stream = TcpStream, Listener = TcpListener> + rt::Files<File = File>>(
+    rt: &R,
+    texts: &[&str],
+    end: End<'_>,
+) -> bool {
     let mut disk = MachineDisk::new(rt);
     let mut logs = MachineLogs::new(rt);
     ends(rt, texts, &mut disk, &mut logs, end)
@@ -23,10 +20,7 @@ fn ends_here<
 
 // Whether a node is refused where another one has its log.
 fn is_refused_taken<
-    R: Machine
-        + Net<Stream = TcpStream, Listener = TcpListener>
-        + RandomSource
-        + rt::Files<File = File>,
+    R: Host + Net<Stream = TcpStream, Listener = TcpListener> + rt::Files<File = File>,
 >(rt: &R) -> Option<bool> {
     let mut device = MachineDevice::open(rt, "taken.part", KeptBy::System).ok()?;
     device.lock().ok()?;
@@ -56,11 +50,6 @@ const REFUSED: &[(&str, Option<usize>, &str)] = &[
         "fedrun: 121 OtherLog begun.part\n",
     ),
     (
-        "coordinate f i --listen 127.0.0.1:0 --report begun",
-        None,
-        "fedrun: 121 OtherLog begun.part\n",
-    ),
-    (
         "join f other src --connect 127.0.0.1:1 --report begun",
         None,
         "fedrun: 121 OtherLog begun.part\n",
@@ -81,12 +70,12 @@ fn change<R: AllocGlobal + rt::Files<File = File>>(rt: &R, place: usize) -> Opti
 }
 
 // Whether that is said where a node would go on from that log, and it stays as it is.
-fn is_refused<
-    R: Machine
-        + Net<Stream = TcpStream, Listener = TcpListener>
-        + RandomSource
-        + rt::Files<File = File>,
->(rt: &R, words: &str, changed: Option<usize>, err: &str) -> Option<bool> {
+fn is_refused<R: Host + Net<Stream = TcpStream, Listener = TcpListener> + rt::Files<File = File>>(
+    rt: &R,
+    words: &str,
+    changed: Option<usize>,
+    err: &str,
+) -> Option<bool> {
     let is_begun = ends_here(
         rt,
         &["join f i src --connect 127.0.0.1:1 --report begun --turns 20"],
@@ -103,18 +92,12 @@ fn is_refused<
 }
 
 // The place of the first of these that isn't.
-fn first_wrong<
-    R: Machine
-        + Net<Stream = TcpStream, Listener = TcpListener>
-        + RandomSource
-        + rt::Files<File = File>,
->(rt: &R) -> Option<usize> {
-    for (place, (words, changed, err)) in REFUSED.iter().enumerate() {
-        if is_refused(rt, words, *changed, err) != Some(true) {
-            return Some(place);
-        }
-    }
-    None
+fn first_wrong<R: Host + Net<Stream = TcpStream, Listener = TcpListener> + rt::Files<File = File>>(
+    rt: &R,
+) -> Option<usize> {
+    REFUSED.iter().position(|(words, changed, err)| {
+        is_refused(rt, words, *changed, err) != Some(true)
+    })
 }
 
 #[test]

@@ -11,11 +11,16 @@ use std::random::RandomSource;
 use tests_samples::{COUNTER, Machine, REPLACED};
 use wires_hosts::Teller;
 
+/// The machine of a node's process, with threads, TCP and random bytes.
+pub trait Host: Machine + RandomSource {}
+
+impl<R: Machine + RandomSource> Host for R {}
+
 /// The secret of all nodes.
 pub const SECRET: &str = "0123456789abcdef0123456789abcdef";
 
-/// The files that all nodes read, but for the secret: two federations, two files without inputs, and secrets that differ
-/// from that of all in the last byte, are as short as one may be, and are too short.
+/// The files that all nodes read, but for the secret: two federations, two files without inputs, and secrets that
+/// differ from that of all in the last byte, and are as short as one may be.
 const TEXTS: &[(&str, &str)] = &[
     ("f", COUNTER),
     ("replaced", REPLACED),
@@ -23,7 +28,6 @@ const TEXTS: &[(&str, &str)] = &[
     ("other", "# no input\n"),
     ("wrong", "0123456789abcdef0123456789abcdeg"),
     ("least", "0123456789abcdef"),
-    ("short", "0123456789abcde"),
 ];
 
 /// An address at which nobody listens.
@@ -96,7 +100,7 @@ impl Files for NodeFiles<'_> {
 /// What the words of a node's command give that has this secret, on this disk and with these logs, where it says all to
 /// this writer: the status, and what is on standard error. None where there is no memory.
 pub fn commanded<
-    R: Machine + Net<Stream = TcpStream, Listener = TcpListener> + RandomSource,
+    R: Host + Net<Stream = TcpStream, Listener = TcpListener>,
     D: Disk,
     L: LogDisk<V>,
     V: Device + Drop + Send,
@@ -114,7 +118,7 @@ pub fn commanded<
 
 /// The same where this tells what happens.
 pub fn watched<
-    R: Machine + Net<Stream = TcpStream, Listener = TcpListener> + RandomSource,
+    R: Host + Net<Stream = TcpStream, Listener = TcpListener>,
     D: Disk,
     L: LogDisk<V>,
     V: Device + Drop + Send,
@@ -138,7 +142,7 @@ pub fn watched<
 
 /// Whether a node ends so that is given these words.
 pub fn ends<
-    R: Machine + Net<Stream = TcpStream, Listener = TcpListener> + RandomSource,
+    R: Host + Net<Stream = TcpStream, Listener = TcpListener>,
     D: Disk,
     L: LogDisk<V>,
     V: Device + Drop + Send,

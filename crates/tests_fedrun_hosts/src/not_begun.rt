@@ -1,15 +1,13 @@
 //! Nodes that don't begin: what each says, while all files stay as they are.
-use crate::nodes::{End, address_of};
+use crate::nodes::{End, Host, address_of};
 use crate::runs::ends_on;
 use crate::shared_files::SharedFiles;
 use std::net::{Net, TcpListener, TcpStream};
-use std::random::RandomSource;
-use tests_samples::Machine;
 use wires_transports::listen;
 
 // Whether a node ends so that is given these words, on a machine with a report and the temporary file of another, which
 // was ended in the midst. It has just these two then.
-fn is_not_begun<R: Machine + Net<Stream = TcpStream, Listener = TcpListener> + RandomSource>(
+fn is_not_begun<R: Host + Net<Stream = TcpStream, Listener = TcpListener>>(
     rt: &R,
     texts: &[&str],
     end: End<'_>,
@@ -58,15 +56,10 @@ const NOT_BEGUN: &[(&str, u8, &str)] = &[
 ];
 
 // The place of the first words with which a node begins, or that are answered otherwise.
-fn first_wrong<R: Machine + Net<Stream = TcpStream, Listener = TcpListener> + RandomSource>(
-    rt: &R,
-) -> Option<usize> {
-    for (place, (words, status, err)) in NOT_BEGUN.iter().enumerate() {
-        if is_not_begun(rt, &[words], (*status, "", err)) != Some(true) {
-            return Some(place);
-        }
-    }
-    None
+fn first_wrong<R: Host + Net<Stream = TcpStream, Listener = TcpListener>>(rt: &R) -> Option<usize> {
+    NOT_BEGUN.iter().position(|(words, status, err)| {
+        is_not_begun(rt, &[words], (*status, "", err)) != Some(true)
+    })
 }
 
 #[test]
@@ -75,7 +68,7 @@ fn begins_nothing_where_it_is_given_something_wrong(rt: HostRuntime) {
 }
 
 // Whether a coordinator doesn't begin at an address at which another listens.
-fn is_not_begun_there<R: Machine + Net<Stream = TcpStream, Listener = TcpListener> + RandomSource>(
+fn is_not_begun_there<R: Host + Net<Stream = TcpStream, Listener = TcpListener>>(
     rt: &R,
 ) -> Option<bool> {
     let listener = listen(rt).ok()?;

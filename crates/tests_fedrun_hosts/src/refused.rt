@@ -1,11 +1,9 @@
 //! Nodes that don't end well: what each says, and what is left of it.
-use crate::nodes::{ANY, End, NOT_FINISHED, commanded};
+use crate::nodes::{ANY, Host, NOT_FINISHED, commanded};
 use crate::runs::{COORDINATOR, Node, SNK, SRC, run};
 use crate::shared_files::{Operation, Process, SharedFiles};
 use std::io;
 use std::net::{Net, TcpListener, TcpStream};
-use std::random::RandomSource;
-use tests_samples::Machine;
 
 /// Words of nodes that keep no logs and give up after a second.
 const PATIENT: &str = "--sync no --secret secret --patience 1";
@@ -77,25 +75,6 @@ const REFUSED: &[Refused] = &[
         ..UNPROVED
     },
     Refused {
-        more: "--sync no --secret short",
-        err: "fedrun: 112 SecretTooShort\n",
-        left: NOTHING,
-        ..UNPROVED
-    },
-    Refused {
-        more: "--sync no --secret nothing",
-        err: "fedrun: cannot read nothing\n",
-        left: NOTHING,
-        ..UNPROVED
-    },
-    Refused {
-        more: "--sync no --secret secret --frames 3",
-        status: 2,
-        err: "fedrun: usage\n",
-        left: NOTHING,
-        ..UNPROVED
-    },
-    Refused {
         more: "--sync no --secret secret --turns 0",
         err: "fedrun: not finished\n",
         ..UNSAVED
@@ -125,12 +104,6 @@ const REFUSED: &[Refused] = &[
         ..UNSAVED
     },
     Refused {
-        failing: Some(Operation::SyncFirst),
-        err: "fedrun: 120 Unsaved r: cannot sync\n",
-        left: NOTHING,
-        ..UNSAVED
-    },
-    Refused {
         failing: Some(Operation::Write),
         err: "fedrun: 120 Unsaved r: cannot write\n",
         left: PART,
@@ -151,7 +124,7 @@ const REFUSED: &[Refused] = &[
 ];
 
 // Whether a federate is refused so, and the coordinator isn't finished by it.
-fn is_refused<R: Machine + Net<Stream = TcpStream, Listener = TcpListener> + RandomSource>(
+fn is_refused<R: Host + Net<Stream = TcpStream, Listener = TcpListener>>(
     rt: &R,
     refused: &Refused,
 ) -> Option<bool> {
@@ -175,15 +148,10 @@ fn is_refused<R: Machine + Net<Stream = TcpStream, Listener = TcpListener> + Ran
 }
 
 // The place of the first that isn't.
-fn first_wrong<R: Machine + Net<Stream = TcpStream, Listener = TcpListener> + RandomSource>(
-    rt: &R,
-) -> Option<usize> {
-    for (place, refused) in REFUSED.iter().enumerate() {
-        if is_refused(rt, refused) != Some(true) {
-            return Some(place);
-        }
-    }
-    None
+fn first_wrong<R: Host + Net<Stream = TcpStream, Listener = TcpListener>>(rt: &R) -> Option<usize> {
+    REFUSED
+        .iter()
+        .position(|refused| is_refused(rt, refused) != Some(true))
 }
 
 #[test]
@@ -199,7 +167,7 @@ const UNSAVED_BY_COORDINATOR: &[(Operation, &str)] = &[
 ];
 
 // Whether a coordinator says just that whose disk can't do this, and no federate hears that the run is finished.
-fn says_so_alone<R: Machine + Net<Stream = TcpStream, Listener = TcpListener> + RandomSource>(
+fn says_so_alone<R: Host + Net<Stream = TcpStream, Listener = TcpListener>>(
     rt: &R,
     failing: Operation,
     err: &str,
@@ -227,7 +195,7 @@ fn says_so_alone<R: Machine + Net<Stream = TcpStream, Listener = TcpListener> + 
 }
 
 // What is said of the first where it is otherwise.
-fn first_told<R: Machine + Net<Stream = TcpStream, Listener = TcpListener> + RandomSource>(
+fn first_told<R: Host + Net<Stream = TcpStream, Listener = TcpListener>>(
     rt: &R,
 ) -> Option<&'static str> {
     for (failing, err) in UNSAVED_BY_COORDINATOR {
@@ -260,7 +228,7 @@ impl io::Write for Refusing {
 
 // Whether a coordinator that has a secret of this many bytes, and whose standard output refuses, ends so and leaves no
 // file.
-fn is_unheard<R: Machine + Net<Stream = TcpStream, Listener = TcpListener> + RandomSource>(
+fn is_unheard<R: Host + Net<Stream = TcpStream, Listener = TcpListener>>(
     rt: &R,
     length: usize,
     status: u8,

@@ -8,8 +8,8 @@ use tag::{FiniteTag, Time};
 use tests_samples::Machine;
 use wires_hosts::{Happened, Happening, Looked, Reached, Standing, Told};
 
-/// The names `src` and `snk`.
-pub fn names(alloc: Global) -> Option<Vec<Text>> {
+// The names `src` and `snk`.
+fn names(alloc: Global) -> Option<Vec<Text>> {
     let mut names = Vec::new(alloc);
     for name in ["src", "snk"] {
         names

@@ -1,14 +1,12 @@
 //! Runs of nodes, all on one machine with files in memory, each in a thread in the place of a process.
-use crate::nodes::{ANY, End, FINISHED, NOBODY, SECRET, commanded, ends};
+use crate::nodes::{ANY, End, FINISHED, Host, NOBODY, SECRET, commanded, ends};
 use crate::shared_files::{Operation, Process, SharedFiles};
 use crate::spoken::{Spoken, Until, heard};
 use crossbeam_channel::{Receiver, Sender, unbounded};
 use std::io::Write;
 use std::net::{Net, TcpListener, TcpStream};
-use std::random::RandomSource;
 use std::thread;
 use tests_outcomes::{outcome_of, shown};
-use tests_samples::Machine;
 
 /// The names of the reports or logs of the coordinator, of `src` and of `snk`.
 pub const REPORTS: &[&str] = &["c", "src", "snk"];
@@ -56,7 +54,7 @@ pub const ALL: &[Node<'static>] = &[COORDINATOR, SRC, SNK];
 
 impl Node<'_> {
     /// Whether it ends so on this machine.
-    pub fn ends<R: Machine + Net<Stream = TcpStream, Listener = TcpListener> + RandomSource>(
+    pub fn ends<R: Host + Net<Stream = TcpStream, Listener = TcpListener>>(
         &self,
         rt: &R,
         files: &SharedFiles,
@@ -67,10 +65,13 @@ impl Node<'_> {
     }
 
     /// Whether it ends so that says all to this writer, whatever it says.
-    pub fn ends_saying<
-        R: Machine + Net<Stream = TcpStream, Listener = TcpListener> + RandomSource,
-        O: Write,
-    >(&self, rt: &R, files: &SharedFiles, address: &str, out: &mut O) -> bool {
+    pub fn ends_saying<R: Host + Net<Stream = TcpStream, Listener = TcpListener>, O: Write>(
+        &self,
+        rt: &R,
+        files: &SharedFiles,
+        address: &str,
+        out: &mut O,
+    ) -> bool {
         let texts = [self.role, address, self.federation, self.given, self.more];
         let mut disk = Process::new(rt, files, self.failing);
         let mut logs = Process::new(rt, files, self.failing);
@@ -81,7 +82,7 @@ impl Node<'_> {
     }
 
     /// The same of one that says all to another thread.
-    pub fn speaks<R: Machine + Net<Stream = TcpStream, Listener = TcpListener> + RandomSource>(
+    pub fn speaks<R: Host + Net<Stream = TcpStream, Listener = TcpListener>>(
         &self,
         rt: &R,
         files: &SharedFiles,
@@ -93,7 +94,7 @@ impl Node<'_> {
 }
 
 /// Whether a node ends so on this machine that is given these words.
-pub fn ends_on<R: Machine + Net<Stream = TcpStream, Listener = TcpListener> + RandomSource>(
+pub fn ends_on<R: Host + Net<Stream = TcpStream, Listener = TcpListener>>(
     rt: &R,
     files: &SharedFiles,
     failing: Option<Operation>,
@@ -108,7 +109,7 @@ pub fn ends_on<R: Machine + Net<Stream = TcpStream, Listener = TcpListener> + Ra
 /// Whether nodes end so, each in a process of its own, which is gone then: a coordinator that listens at `ANY` address
 /// and says which, or says first that it is finished and listens at this one, and one federate or two side by side, which
 /// connect to it.
-pub fn run<R: Machine + Net<Stream = TcpStream, Listener = TcpListener> + RandomSource>(
+pub fn run<R: Host + Net<Stream = TcpStream, Listener = TcpListener>>(
     rt: &R,
     files: &SharedFiles,
     address: &str,
@@ -127,7 +128,7 @@ pub fn run<R: Machine + Net<Stream = TcpStream, Listener = TcpListener> + Random
 
 /// Whether federates end so that connect where the coordinator says that it listens, and it says behind that what it
 /// should.
-pub fn connect<R: Machine + Net<Stream = TcpStream, Listener = TcpListener> + RandomSource>(
+pub fn connect<R: Host + Net<Stream = TcpStream, Listener = TcpListener>>(
     rt: &R,
     files: &SharedFiles,
     coordinator: &Node<'_>,
@@ -151,7 +152,7 @@ pub fn connect<R: Machine + Net<Stream = TcpStream, Listener = TcpListener> + Ra
 }
 
 // Whether one federate ends so, or two do side by side.
-fn end_beside<R: Machine + Net<Stream = TcpStream, Listener = TcpListener> + RandomSource>(
+fn end_beside<R: Host + Net<Stream = TcpStream, Listener = TcpListener>>(
     rt: &R,
     files: &SharedFiles,
     federates: &[Node<'_>],
@@ -172,7 +173,7 @@ fn end_beside<R: Machine + Net<Stream = TcpStream, Listener = TcpListener> + Ran
 }
 
 /// Whether all three nodes end so that are begun one after the other, where no other one is there.
-pub fn end_alone<R: Machine + Net<Stream = TcpStream, Listener = TcpListener> + RandomSource>(
+pub fn end_alone<R: Host + Net<Stream = TcpStream, Listener = TcpListener>>(
     rt: &R,
     files: &SharedFiles,
     nodes: &[Node<'_>],
@@ -189,7 +190,7 @@ pub fn end_alone<R: Machine + Net<Stream = TcpStream, Listener = TcpListener> + 
 
 /// Whether the reports or logs of all three nodes are there, with no other file, and an audit of these prints the rows of
 /// this federation.
-pub fn are_proved<R: Machine + Net<Stream = TcpStream, Listener = TcpListener> + RandomSource>(
+pub fn are_proved<R: Host + Net<Stream = TcpStream, Listener = TcpListener>>(
     rt: &R,
     files: &SharedFiles,
     federation: &str,
@@ -205,7 +206,7 @@ pub fn are_proved<R: Machine + Net<Stream = TcpStream, Listener = TcpListener> +
 }
 
 // Whether an audit of these reports or logs prints the rows.
-fn prints<'x, R: Machine + Net<Stream = TcpStream, Listener = TcpListener> + RandomSource>(
+fn prints<'x, R: Host + Net<Stream = TcpStream, Listener = TcpListener>>(
     rt: &R,
     federation: &'x str,
     coordinator: &'x [u8],

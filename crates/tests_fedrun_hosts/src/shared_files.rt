@@ -16,7 +16,6 @@ pub enum Operation {
     Create,
     Open,
     WriteFirst,
-    SyncFirst,
     Write,
     Sync,
     Rename,
@@ -235,16 +234,17 @@ impl<R: Wait> Disk for Process<'_, R> {
     }
 
     fn write(&mut self, name: &str, bytes: &[u8]) -> Result<(), SaveFault> {
-        let (writing, syncing) = if self.has_written {
-            (Operation::Write, Operation::Sync)
-        } else {
-            (Operation::WriteFirst, Operation::SyncFirst)
-        };
+        let is_first = !self.has_written;
         self.has_written = true;
+        let writing = if is_first {
+            Operation::WriteFirst
+        } else {
+            Operation::Write
+        };
         if self.fails(writing) || self.files.write(self.rt, name, bytes).is_none() {
             return Err(SaveFault::CannotWrite);
         }
-        if self.fails(syncing) {
+        if !is_first && self.fails(Operation::Sync) {
             return Err(SaveFault::CannotSync);
         }
         Ok(())

@@ -1,13 +1,11 @@
 //! A node whose log says already that the run is finished: it says so itself once that log has its end and its name.
-use crate::nodes::{ANY, End, FINISHED, ends};
+use crate::nodes::{ANY, End, FINISHED, Host, ends};
 use crate::runs::{ALL, END, run};
 use crate::shared_files::{Operation, Process, SharedFiles};
 use fedrun_logs::LogDisk;
 use files_keeping::{KeepFault, KeptBy, MemoryDevice, Part};
 use std::alloc::Global;
 use std::net::{Net, TcpListener, TcpStream};
-use std::random::RandomSource;
-use tests_samples::Machine;
 
 /// Logs of which each is opened with these bytes, and of each of which so many calls succeed.
 #[derive(Drop)]
@@ -44,7 +42,7 @@ const UNKEPT: &[&str] = &[
 
 // Whether `src` ends so that has this log, in a file of which so many calls succeed, on a disk of which one operation
 // may fail.
-fn ends_with<R: Machine + Net<Stream = TcpStream, Listener = TcpListener> + RandomSource>(
+fn ends_with<R: Host + Net<Stream = TcpStream, Listener = TcpListener>>(
     rt: &R,
     log: &[u8],
     calls: u64,
@@ -65,7 +63,7 @@ fn ends_with<R: Machine + Net<Stream = TcpStream, Listener = TcpListener> + Rand
 }
 
 // Whether `src` says that the run is finished where its log has its end and its name, and else why it hasn't.
-fn says_it_last<R: Machine + Net<Stream = TcpStream, Listener = TcpListener> + RandomSource>(
+fn says_it_last<R: Host + Net<Stream = TcpStream, Listener = TcpListener>>(
     rt: &R,
     log: &[u8],
 ) -> Option<bool> {
@@ -84,9 +82,9 @@ fn says_it_last<R: Machine + Net<Stream = TcpStream, Listener = TcpListener> + R
 }
 
 // The same of the log of a run, without its end.
-fn says_it_last_of_a_run<
-    R: Machine + Net<Stream = TcpStream, Listener = TcpListener> + RandomSource,
->(rt: &R) -> Option<bool> {
+fn says_it_last_of_a_run<R: Host + Net<Stream = TcpStream, Listener = TcpListener>>(
+    rt: &R,
+) -> Option<bool> {
     let files = SharedFiles::new(rt.alloc());
     run(rt, &files, ANY, ALL)?;
     let log = files.front(rt, "src", END)?;

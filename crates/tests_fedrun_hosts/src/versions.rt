@@ -1,13 +1,11 @@
 //! Which version of frames `join` writes: that which its words say, or the one that has Batches. Its Hello tells it, and
 //! the coordinator sends Batches by that.
-use crate::nodes::{SECRET, address_of};
+use crate::nodes::{Host, SECRET, address_of};
 use crate::runs::{Node, SRC};
 use crate::shared_files::SharedFiles;
 use std::io::{Read, Write};
 use std::net::{Net, SocketAddr, TcpListener, TcpStream};
-use std::random::RandomSource;
 use std::thread;
-use tests_samples::Machine;
 use wires_greeting::{CoordinatorSide, Key};
 
 // What a coordinator of two federates says to a greeting, with the digest of files that the greeting has.
@@ -35,7 +33,7 @@ fn version_said(listener: TcpListener) -> Option<u8> {
 }
 
 // The version of frames that a federate's node says which is given these further words.
-fn version_of<R: Machine + Net<Stream = TcpStream, Listener = TcpListener> + RandomSource>(
+fn version_of<R: Host + Net<Stream = TcpStream, Listener = TcpListener>>(
     rt: &R,
     more: &str,
 ) -> Option<u8> {
@@ -59,7 +57,7 @@ const VERSIONS: &[(&str, u8)] = &[
 ];
 
 // The first of these that say another version.
-fn first_wrong<R: Machine + Net<Stream = TcpStream, Listener = TcpListener> + RandomSource>(
+fn first_wrong<R: Host + Net<Stream = TcpStream, Listener = TcpListener>>(
     rt: &R,
 ) -> Option<&'static str> {
     for (more, version) in VERSIONS {

@@ -1,17 +1,18 @@
-//! What is written for whoever watches a node, and that the node does the same as without.
-use crate::nodes::{ANY, NOBODY, SECRET, watched};
+//! What is written for whoever watches a node, what is measured of a coordinator, and that the node does the same as
+//! without.
+use crate::nodes::{ANY, Host, SECRET, watched};
 use crate::runs::{COORDINATOR, SNK, SRC, connect};
 use crate::shared_files::{Process, SharedFiles};
 use crate::spoken::{Spoken, Until, heard};
 use crossbeam_channel::{Receiver, Sender, unbounded};
+use fedrun_stats::NodeMeasures;
 use fedrun_watch::{View, show, view_asked};
+use files_stats::Stats;
 use std::alloc::Global;
 use std::io::Write;
 use std::net::{Net, TcpListener, TcpStream};
-use std::random::RandomSource;
 use std::sync::Wait;
 use std::thread;
-use tests_samples::Machine;
 use wires_hosts::{Teller, Watcher};
 
 /// Lines alone are shown.
@@ -29,13 +30,13 @@ fn written<R: Wait>(rt: &R, alloc: Global, watcher: &Watcher) -> Option<String> 
 
 /// A coordinator with a patience, whose run may be watched.
 const WORDS: &[&str] = &[
-    "coordinate --report c --log --listen",
+    "coordinate --report c --log --stats s --listen",
     ANY,
     "f i --patience 10",
 ];
 
 // How a coordinator ends that is watched and says all to another thread, which hears nothing more then.
-fn coordinated<R: Machine + Net<Stream = TcpStream, Listener = TcpListener> + RandomSource>(
+fn coordinated<R: Host + Net<Stream = TcpStream, Listener = TcpListener>>(
     rt: &R,
     files: &SharedFiles,
     to: Sender<Vec<u8>>,
@@ -47,13 +48,16 @@ fn coordinated<R: Machine + Net<Stream = TcpStream, Listener = TcpListener> + Ra
     watched(rt, WORDS, SECRET, &mut disk, &mut logs, &mut out, teller)
 }
 
-// What is written of a run in which all nodes end as they should; none where one doesn't.
-fn lines_of_run<R: Machine + Net<Stream = TcpStream, Listener = TcpListener> + RandomSource>(
+// What is written of a run in which all nodes end as they should, and what is measured of its coordinator; none where
+// one doesn't.
+fn seen_of_run<R: Host + Net<Stream = TcpStream, Listener = TcpListener>>(
     rt: &R,
-) -> Option<String> {
+) -> Option<(String, Stats<'static>)> {
     let alloc = rt.alloc();
     let files = SharedFiles::new(alloc);
     let (teller, watcher) = Teller::watched(rt, alloc).ok()?;
+    let (measures, moments) = NodeMeasures::new(rt, alloc).ok()?;
+    let teller = teller.measured(rt, moments);
     let (to, from) = unbounded(alloc).ok()?;
     let (end, are_right) = thread::join(
         rt,
@@ -62,7 +66,7 @@ fn lines_of_run<R: Machine + Net<Stream = TcpStream, Listener = TcpListener> + R
     );
     let (status, err) = end?;
     if status == 0 && err.is_empty() && are_right? {
-        written(rt, alloc, &watcher)
+        Some((written(rt, alloc, &watcher)?, measures.stats(rt, status)?))
     } else {
         None
     }
@@ -106,37 +110,40 @@ fn are_written(lines: &str) -> Option<bool> {
     Some(lines.bytes().filter(|byte| *byte == b'\n').count() == count)
 }
 
-#[test]
-fn a_run_is_watched_line_by_line(rt: HostRuntime) {
-    let lines = lines_of_run(&rt);
-    assert_eq!(rt;
-        lines.as_ref().and_then(|lines| are_written(lines.as_str())),
-        Some(true)
-    );
+// Whether that is what the counter's coordinator does: an LTC comes of each of six rows, and three MSGs go on.
+fn is_counter(stats: &Stats<'_>) -> bool {
+    let Some(counts) = stats.coordinator else {
+        return false;
+    };
+    stats.command == "coordinate"
+        && stats.status == 0
+        && stats.federates.is_none()
+        && counts.connections >= 2
+        && counts.received.frames.ltc == 6
+        && counts.received.frames.msg == 3
+        && counts.sent.frames.msg == 3
+        && counts.sent.calls > 0
+        && counts.received.calls > 0
 }
 
-// What is written of a federate with these words more that nobody answers, and that gives up after a second.
-fn lines_alone<R: Machine + Net<Stream = TcpStream, Listener = TcpListener> + RandomSource>(
-    rt: &R,
-    more: &str,
-) -> Option<String> {
-    let alloc = rt.alloc();
-    let files = SharedFiles::new(alloc);
-    let mut out = Vec::new(alloc);
-    let words = [
-        "join --report r --log --patience 1 --connect",
-        NOBODY,
-        "f i src",
-        more,
-    ];
-    lines_given_up(rt, &files, &words, &mut out)
+// Whether both are as they should.
+fn is_seen<R: Host + Net<Stream = TcpStream, Listener = TcpListener>>(rt: &R) -> Option<bool> {
+    let (lines, stats) = seen_of_run(rt)?;
+    Some(are_written(lines.as_str())? && is_counter(&stats))
+}
+
+#[test]
+fn a_run_is_watched_line_by_line_and_measured(rt: HostRuntime) {
+    assert_eq!(rt; is_seen(&rt), Some(true));
 }
 
 // What is written of a node with these words that gives up, and says all else to this writer.
-fn lines_given_up<
-    R: Machine + Net<Stream = TcpStream, Listener = TcpListener> + RandomSource,
-    O: Write,
->(rt: &R, files: &SharedFiles, words: &[&str], out: &mut O) -> Option<String> {
+fn lines_given_up<R: Host + Net<Stream = TcpStream, Listener = TcpListener>, O: Write>(
+    rt: &R,
+    files: &SharedFiles,
+    words: &[&str],
+    out: &mut O,
+) -> Option<String> {
     let alloc = rt.alloc();
     let (teller, watcher) = Teller::watched(rt, alloc).ok()?;
     let mut disk = Process::new(rt, files, None);
@@ -149,34 +156,6 @@ fn lines_given_up<
     }
 }
 
-// Whether it is told when it begins, then of the first attempt, that it comes to nothing, that it gives up, and last
-// how far it is: what comes next it has said, and nobody has heard so.
-fn is_given_up<R: Machine + Net<Stream = TcpStream, Listener = TcpListener> + RandomSource>(
-    rt: &R,
-    more: &str,
-) -> Option<bool> {
-    let lines = lines_alone(rt, more)?;
-    let lines = lines.as_str();
-    let (front, attempts) = lines.split_once(" s: connects to 127.0.0.1:1\n")?;
-    let first = attempts.lines().next()?;
-    Some(
-        front.contains(" s: it begins, at ")
-            && first.ends_with(" s: no connection to 127.0.0.1:1: nobody listens there")
-            && lines.contains(
-                " s: it gives up: nobody who proved the secret was heard for its patience\n",
-            )
-            && lines.ends_with(
-                ", never heard, completed nothing, granted nothing, 1 signal not acknowledged\n",
-            ),
-    )
-}
-
-#[test]
-fn a_federate_is_watched_with_a_log_and_without(rt: HostRuntime) {
-    let given_up = [is_given_up(&rt, ""), is_given_up(&rt, "--sync no")];
-    assert_eq!(rt; given_up, [Some(true); 2]);
-}
-
 /// A coordinator that gives up after two seconds.
 const GIVING_UP: &[&str] = &[
     "coordinate --report c --log --listen",
@@ -186,7 +165,7 @@ const GIVING_UP: &[&str] = &[
 
 // What is written of `src`, which connects where a coordinator says that it listens, and gives up after a second in
 // which nothing comes.
-fn lines_of_source<R: Machine + Net<Stream = TcpStream, Listener = TcpListener> + RandomSource>(
+fn lines_of_source<R: Host + Net<Stream = TcpStream, Listener = TcpListener>>(
     rt: &R,
     files: &SharedFiles,
     from: &Receiver<Vec<u8>>,
@@ -207,7 +186,7 @@ fn lines_of_source<R: Machine + Net<Stream = TcpStream, Listener = TcpListener> 
 }
 
 // What is written of a coordinator and of `src`, which makes all its rows, where `snk` doesn't come.
-fn lines_without_sink<R: Machine + Net<Stream = TcpStream, Listener = TcpListener> + RandomSource>(
+fn lines_without_sink<R: Host + Net<Stream = TcpStream, Listener = TcpListener>>(
     rt: &R,
 ) -> Option<(String, String)> {
     let alloc = rt.alloc();
@@ -236,7 +215,7 @@ fn stands(lines: &str, federate: &str, reached: &str) -> bool {
 }
 
 // Whether both nodes say so as they give up: the coordinator of each federate, and `src` of itself.
-fn are_looked_at<R: Machine + Net<Stream = TcpStream, Listener = TcpListener> + RandomSource>(
+fn are_looked_at<R: Host + Net<Stream = TcpStream, Listener = TcpListener>>(
     rt: &R,
 ) -> Option<bool> {
     let (coordinator, source) = lines_without_sink(rt)?;

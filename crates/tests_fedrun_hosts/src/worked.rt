@@ -1,11 +1,10 @@
 //! Nodes that keep no logs: the rows that an audit proves of their reports.
-use crate::nodes::{ANY, FINISHED};
+use crate::nodes::{ANY, Host};
 use crate::runs::{COORDINATOR, Node, SNK, SRC, are_proved, run};
 use crate::shared_files::SharedFiles;
 use std::net::{Net, TcpListener, TcpStream};
-use std::random::RandomSource;
 use tests_samples::worked_rows::{COUNTER_ROWS, REPLACED_ROWS};
-use tests_samples::{COUNTER, Machine, REPLACED};
+use tests_samples::{COUNTER, REPLACED};
 
 /// Federations with two federates: the file, further words of all nodes, the federation, and its rows.
 const WORKED: &[(&str, &str, &str, &str)] = &[
@@ -19,7 +18,7 @@ const WORKED: &[(&str, &str, &str, &str)] = &[
 ];
 
 // Whether all three nodes say that the run is finished, leave their reports alone, and an audit proves these rows.
-fn give<'x, R: Machine + Net<Stream = TcpStream, Listener = TcpListener> + RandomSource>(
+fn give<'x, R: Host + Net<Stream = TcpStream, Listener = TcpListener>>(
     rt: &R,
     federation: &'x str,
     more: &'x str,
@@ -48,15 +47,10 @@ fn give<'x, R: Machine + Net<Stream = TcpStream, Listener = TcpListener> + Rando
 }
 
 // The place of the first that doesn't give its rows.
-fn first_wrong<R: Machine + Net<Stream = TcpStream, Listener = TcpListener> + RandomSource>(
-    rt: &R,
-) -> Option<usize> {
-    for (place, (federation, more, text, rows)) in WORKED.iter().enumerate() {
-        if give(rt, federation, more, text, rows) != Some(true) {
-            return Some(place);
-        }
-    }
-    None
+fn first_wrong<R: Host + Net<Stream = TcpStream, Listener = TcpListener>>(rt: &R) -> Option<usize> {
+    WORKED.iter().position(|(federation, more, text, rows)| {
+        give(rt, federation, more, text, rows) != Some(true)
+    })
 }
 
 #[test]

@@ -67,9 +67,9 @@ fn all_go_on<R: Wait>(rt: &R, alloc: Global, before: Life, bytes: &[u8], least: 
     all
 }
 
-// Whether that is so whatever is left of a disk of which a call fails.
-fn is_right<R: Wait>(rt: &R, alloc: Global, bytes: &[u8], calls: u64, part: Part) -> bool {
-    let Some((life, device)) = lived(rt, alloc, bytes, calls, part) else {
+// Whether that is so whatever is left of a disk without a log of which a call fails.
+fn is_right<R: Wait>(rt: &R, alloc: Global, calls: u64, part: Part) -> bool {
+    let Some((life, device)) = lived(rt, alloc, &[], calls, part) else {
         return false;
     };
     let seen = device.bytes();
@@ -78,10 +78,10 @@ fn is_right<R: Wait>(rt: &R, alloc: Global, bytes: &[u8], calls: u64, part: Part
     all_go_on(rt, alloc, life, seen, least) && all_go_on(rt, alloc, life, synced, least)
 }
 
-// How many calls a node needs over these bytes, of so many at most.
-fn calls_of<R: Wait>(rt: &R, alloc: Global, bytes: &[u8], most: u64) -> Option<u64> {
+// How many calls a node needs that begins, of so many at most.
+fn calls_needed<R: Wait>(rt: &R, alloc: Global, most: u64) -> Option<u64> {
     for calls in 0..most {
-        let (life, _) = lived(rt, alloc, bytes, calls, Part::Nothing)?;
+        let (life, _) = lived(rt, alloc, &[], calls, Part::Nothing)?;
         if life.is_ended {
             return Some(calls);
         }
@@ -91,41 +91,10 @@ fn calls_of<R: Wait>(rt: &R, alloc: Global, bytes: &[u8], most: u64) -> Option<u
 
 #[test]
 fn goes_on_whichever_call_fails(rt: HostRuntime) {
-    assert_eq!(rt; calls_of(&rt, rt.alloc(), &[], 100), Some(CALLS));
+    assert_eq!(rt; calls_needed(&rt, rt.alloc(), 100), Some(CALLS));
     for part in PARTS {
         for calls in 0..=CALLS {
-            let is_right = is_right(&rt, rt.alloc(), &[], calls, part);
-            assert!(rt; is_right, "{calls} {part:?}");
-        }
-    }
-}
-
-/// Of a node that was killed within its fourth block: how many calls its disk took before.
-const KILLED: u64 = 13;
-
-/// How many calls it needs then: two blocks more are whole or not, so as many as above but for the head and three blocks.
-const CALLS_AGAIN: u64 = 16;
-
-// What its disk has then: three blocks, and half of the fourth.
-fn torn<R: Wait>(rt: &R, alloc: Global) -> Option<Vec<u8>> {
-    let (life, device) = lived(rt, alloc, &[], KILLED, Part::Half)?;
-    if life.is_ended || device.bytes().len() <= device.synced().len() {
-        return None;
-    }
-    device.bytes().to_vec(alloc).ok()
-}
-
-#[test]
-fn goes_on_whichever_call_fails_as_it_goes_on(rt: HostRuntime) {
-    let torn = torn(&rt, rt.alloc());
-    let bytes: &[u8] = match &torn {
-        Some(bytes) => bytes.as_slice(),
-        None => &[],
-    };
-    assert_eq!(rt; calls_of(&rt, rt.alloc(), bytes, 100), Some(CALLS_AGAIN));
-    for part in PARTS {
-        for calls in 0..=CALLS_AGAIN {
-            let is_right = is_right(&rt, rt.alloc(), bytes, calls, part);
+            let is_right = is_right(&rt, rt.alloc(), calls, part);
             assert!(rt; is_right, "{calls} {part:?}");
         }
     }

@@ -1,8 +1,8 @@
 //! Tests of nodes' logs: over a disk in memory of which each call fails in turn, with each front left of what wasn't
-//! synced, a node that is begun again has done all that others have seen, and goes on to its end; logs from which no node
-//! begins; and many events at once. No part of the product.
+//! synced, a node that is begun again has done all that others have seen, and goes on to its end; and many events at
+//! once. No part of the product.
 //!
-//! Begin with `life`, then `failing` and `refused`.
+//! Begin with `life`, then `failing`.
 #![tactic(auto)]
 
 #[cfg(test)]
@@ -13,7 +13,5 @@ mod lent;
 mod life;
 #[cfg(test)]
 mod many;
-#[cfg(test)]
-mod refused;
 #[cfg(test)]
 mod together;

@@ -1,9 +1,8 @@
-//! Tests of replays: what schedules print over worked federations, and that a replay says that it can't write; and of
-//! steps made one by one in the world of a replay: made-up lists of them, whose rows are compared with the undivided
+//! Tests of replays: that one says that it can't write; and of steps made one by one in the world of a replay: made-up lists of them, whose rows are compared with the undivided
 //! program's, how many signals a link has room for, that steps, schedulings, messages and events may be many, and in how
 //! little memory steps are kept. No program uses this crate.
 //!
-//! Begin with `played`, then `schedules`; with `worlds`, then `lists`.
+//! What schedules print stands in the cases `replays.case`. Begin with `worlds`, then `lists`.
 #![tactic(auto)]
 
 #[cfg(test)]
@@ -18,7 +17,5 @@ mod played;
 mod refusing;
 #[cfg(test)]
 mod room;
-#[cfg(test)]
-mod schedules;
 #[cfg(test)]
 mod worlds;

@@ -1,9 +1,20 @@
 //! The room of a link: how many signals a federate sends that aren't acknowledged. The number is that of
 //! docs/FILES.md, written out: a test that cited the constant of the code would pass with any.
-use crate::schedules::TICKS;
 use crate::worlds::{Scene, seen};
 use world::World;
 use world_stations::{Dir, Outcome, Step};
+
+/// A timer of one nanosecond.
+pub(crate) const TICKS: &str = r#"stop = "1 s"
+[[federate]]
+name = "one"
+outputs = ["y"]
+timers = [{ name = "t", offset = "0", period = "1 ns" }]
+state = [{ name = "n", value = 0 }]
+[[federate.reaction]]
+triggers = ["t"]
+body = ["n = n + 1", "out.y = n"]
+"#;
 
 /// It announces, and is granted all that it has to run. The acknowledgement, the first frame that goes to it, is on its
 /// way.

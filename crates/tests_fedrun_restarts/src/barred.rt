@@ -2,7 +2,6 @@
 //! to their ends, or until they are dropped.
 use crate::fuse::{ENDLESS, Fuse, FusedBarrier, LogLeft};
 use crate::given::Given;
-use crate::life::hand_in_again;
 use crate::lines::{Coming, EndWithRun, MemoryAcceptor, MemoryDial};
 use crate::noted::Sends;
 use crate::stop::Stop;
@@ -10,10 +9,11 @@ use coordinator::Coordinator;
 use crossbeam_channel::{Receiver, Sender};
 use desk::Shared;
 use federate::Federate;
-use fedrun_logs::{LogFile, OpenedLog, begin_log};
+use fedrun_logs::{LogFile, OpenedLog, begin_log, replay};
 use files_keeping::{MemoryDevice, read_locked};
 use files_logs::LogHead;
 use node::{Node, NodeId};
+use node_journal::Journal;
 use std::alloc::Global;
 use std::sync::Arc;
 use wires::{
@@ -23,6 +23,16 @@ use wires_hosts::{Barrier, Heard};
 use wires_transports::{CurrentConnections, Ending};
 use wires_workers::NoGate;
 
+/// What a node is given in each of its lives.
+#[derive(Drop)]
+pub(crate) struct Course<'a, R> {
+    pub rt: &'a R,
+    pub alloc: Global,
+    pub given: &'a Given,
+    /// The coordinator says that the run is finished.
+    pub finished: &'a Ending,
+}
+
 /// As many turns as each run needs that comes to its end.
 const TERMS: Terms = Terms {
     turns: 100_000,
@@ -31,13 +41,13 @@ const TERMS: Terms = Terms {
 
 // A node's log, ready for more, whose events were handed in to its desk; and whether it says that the run is finished.
 fn begun<R: Runtime, N: Node>(
-    rt: &R,
-    alloc: Global,
-    head: &LogHead,
+    course: &Course<'_, R>,
+    who: NodeId,
     shared: &Shared<N>,
     kept: &LogLeft,
 ) -> Result<(LogFile<MemoryDevice>, bool), Stop> {
-    let Some(opened) = opened(alloc, head, &kept.bytes) else {
+    let head = course.given.head(who);
+    let Some(opened) = opened(course.alloc, &head, &kept.bytes) else {
         return Err(Stop::DoesNotGoOn);
     };
     let OpenedLog {
@@ -46,8 +56,24 @@ fn begun<R: Runtime, N: Node>(
         file,
         ..
     } = opened;
-    hand_in_again(rt, alloc, shared, &journal, kept.left)?;
+    hand_in_again(course, shared, &journal, kept.left)?;
     Ok((file, is_told))
+}
+
+// A node's desk takes the events of its log in, at least as many as had come to it when something left it.
+fn hand_in_again<R: Runtime, N: Node>(
+    course: &Course<'_, R>,
+    shared: &Shared<N>,
+    journal: &Journal,
+    left: usize,
+) -> Result<(), Stop> {
+    if journal.len() < left {
+        return Err(Stop::LeftUnkept);
+    }
+    match replay(course.rt, course.alloc, shared, journal) {
+        Ok(_) => Ok(()),
+        Err(_) => Err(Stop::Memory),
+    }
 }
 
 // The log on a disk with these bytes.
@@ -59,46 +85,47 @@ fn opened(alloc: Global, head: &LogHead, bytes: &[u8]) -> Option<OpenedLog<Memor
 
 // Runs a federate, over what was kept of it; whether to its end.
 fn federate_life<R: Runtime>(
-    rt: &R,
-    alloc: Global,
-    given: &Given,
+    course: &Course<'_, R>,
     number: usize,
     to: &Sender<Coming>,
-    finished: &Ending,
     fuse: Fuse,
     kept: &mut LogLeft,
 ) -> Result<bool, Stop> {
-    let head = given.head(NodeId::Federate(number));
-    match given.federate(alloc, number) {
-        Some(shared) => federate_at(rt, alloc, &head, &shared, number, to, finished, fuse, kept),
+    match course.given.federate(course.alloc, number) {
+        Some(shared) => federate_at(course, &shared, number, to, fuse, kept),
         None => Err(Stop::Memory),
     }
 }
 
 // The same with a desk to which nothing came.
 fn federate_at<R: Runtime>(
-    rt: &R,
-    alloc: Global,
-    head: &LogHead,
+    course: &Course<'_, R>,
     shared: &Shared<Federate<'_>>,
     number: usize,
     to: &Sender<Coming>,
-    finished: &Ending,
     fuse: Fuse,
     kept: &mut LogLeft,
 ) -> Result<bool, Stop> {
-    let (file, is_told) = begun(rt, alloc, head, shared, kept)?;
+    let (file, is_told) = begun(course, NodeId::Federate(number), shared, kept)?;
     let ending = Ending::new();
-    let Some(sends) = Sends::none(alloc) else {
+    let Some(sends) = Sends::none(course.alloc) else {
         return Err(Stop::Memory);
     };
-    let barrier = FusedBarrier::new(alloc, shared, file, fuse, &sends, &ending);
+    let barrier = FusedBarrier::new(course.alloc, shared, file, fuse, &sends, &ending);
     // One whose log says that the run is finished asks nobody.
     let has_run = is_told
         || joins(
-            rt, alloc, number, to, finished, shared, &barrier, &sends, &ending,
+            course.rt,
+            course.alloc,
+            course.finished,
+            shared,
+            number,
+            to,
+            &barrier,
+            &sends,
+            &ending,
         );
-    barrier.leave(has_run && finished.is_set(), kept)
+    barrier.leave(has_run && course.finished.is_set(), kept)
 }
 
 // Runs a federate until it hears that the run is finished, or is dropped; whether it could be run, and nobody spoke of
@@ -106,10 +133,10 @@ fn federate_at<R: Runtime>(
 fn joins<R: Runtime, B: Barrier + Sync>(
     rt: &R,
     alloc: Global,
-    number: usize,
-    to: &Sender<Coming>,
     finished: &Ending,
     shared: &Shared<Federate<'_>>,
+    number: usize,
+    to: &Sender<Coming>,
     barrier: &B,
     sends: &Arc<Sends>,
     ending: &Ending,
@@ -145,55 +172,45 @@ fn joins<R: Runtime, B: Barrier + Sync>(
 // Runs the coordinator, over what was kept of it; whether to its end. Where it is finished it says so once all is kept
 // that made it so.
 fn coordinator_life<R: Runtime>(
-    rt: &R,
-    alloc: Global,
-    given: &Given,
+    course: &Course<'_, R>,
     coming: &Receiver<Coming>,
-    finished: &Ending,
     fuse: Fuse,
     kept: &mut LogLeft,
 ) -> Result<bool, Stop> {
-    let head = given.head(NodeId::Coordinator);
-    match given.coordinator(alloc) {
-        Some(shared) => coordinator_at(
-            rt,
-            alloc,
-            &head,
-            &shared,
-            given.count(),
-            coming,
-            finished,
-            fuse,
-            kept,
-        ),
+    match course.given.coordinator(course.alloc) {
+        Some(shared) => coordinator_at(course, &shared, coming, fuse, kept),
         None => Err(Stop::Memory),
     }
 }
 
 // The same with a desk to which nothing came.
 fn coordinator_at<R: Runtime>(
-    rt: &R,
-    alloc: Global,
-    head: &LogHead,
+    course: &Course<'_, R>,
     shared: &Shared<Coordinator<'_>>,
-    count: usize,
     coming: &Receiver<Coming>,
-    finished: &Ending,
     fuse: Fuse,
     kept: &mut LogLeft,
 ) -> Result<bool, Stop> {
-    let (file, _) = begun(rt, alloc, head, shared, kept)?;
+    let (file, _) = begun(course, NodeId::Coordinator, shared, kept)?;
     let ending = Ending::new();
-    let Some(sends) = Sends::none(alloc) else {
+    let Some(sends) = Sends::none(course.alloc) else {
         return Err(Stop::Memory);
     };
-    let barrier = FusedBarrier::new(alloc, shared, file, fuse, &sends, &ending);
+    let barrier = FusedBarrier::new(course.alloc, shared, file, fuse, &sends, &ending);
     let has_run = coordinates(
-        rt, alloc, count, coming, finished, shared, &barrier, &sends, &ending,
+        course.rt,
+        course.alloc,
+        course.given.count(),
+        course.finished,
+        shared,
+        coming,
+        &barrier,
+        &sends,
+        &ending,
     );
-    let is_over = has_run && shared.finished(rt) && barrier.tell(rt).is_ok();
+    let is_over = has_run && shared.finished(course.rt) && barrier.tell(course.rt).is_ok();
     if is_over {
-        finished.set();
+        course.finished.set();
     }
     barrier.leave(is_over, kept)
 }
@@ -203,9 +220,9 @@ fn coordinates<R: Runtime, B: Barrier + Sync>(
     rt: &R,
     alloc: Global,
     count: usize,
-    coming: &Receiver<Coming>,
     finished: &Ending,
     shared: &Shared<Coordinator<'_>>,
+    coming: &Receiver<Coming>,
     barrier: &B,
     sends: &Arc<Sends>,
     ending: &Ending,
@@ -243,17 +260,14 @@ fn coordinates<R: Runtime, B: Barrier + Sync>(
 
 /// Runs a federate that is dropped so, and begins again. What its disk has at its end.
 pub(crate) fn federate_lives<R: Runtime>(
-    rt: &R,
-    alloc: Global,
-    given: &Given,
+    course: &Course<'_, R>,
     number: usize,
     to: &Sender<Coming>,
-    finished: &Ending,
     fuse: Fuse,
 ) -> Result<LogLeft, Stop> {
-    let mut kept = LogLeft::new(alloc);
+    let mut kept = LogLeft::new(course.alloc);
     for fuse in [fuse, ENDLESS] {
-        if federate_life(rt, alloc, given, number, to, finished, fuse, &mut kept)? {
+        if federate_life(course, number, to, fuse, &mut kept)? {
             return Ok(kept);
         }
     }
@@ -262,16 +276,13 @@ pub(crate) fn federate_lives<R: Runtime>(
 
 /// The same of the coordinator.
 pub(crate) fn coordinator_lives<R: Runtime>(
-    rt: &R,
-    alloc: Global,
-    given: &Given,
+    course: &Course<'_, R>,
     coming: &Receiver<Coming>,
-    finished: &Ending,
     fuse: Fuse,
 ) -> Result<LogLeft, Stop> {
-    let mut kept = LogLeft::new(alloc);
+    let mut kept = LogLeft::new(course.alloc);
     for fuse in [fuse, ENDLESS] {
-        if coordinator_life(rt, alloc, given, coming, finished, fuse, &mut kept)? {
+        if coordinator_life(course, coming, fuse, &mut kept)? {
             return Ok(kept);
         }
     }

@@ -1,6 +1,4 @@
-//! Federations whose nodes are killed, and the rows that they must have, which were worked out by hand.
-use tests_samples::worked_rows::CHAIN_ROWS;
-use tests_samples::{CHAIN, CHAIN_INPUT};
+//! A federation whose nodes are dropped, and the rows that it must have, which were worked out by hand.
 
 /// A federation.
 #[derive(Clone, Copy)]
@@ -47,11 +45,4 @@ a (3 ms, 0) [x=6] -> [y=7]
 b (2 ms, 0) [x=5] -> [y=6]
 b (4 ms, 0) [x=7] -> [y=8]
 ",
-};
-
-/// Three federates, one behind the other.
-pub(crate) const IN_A_ROW: Case = Case {
-    federation: CHAIN,
-    inputs: CHAIN_INPUT,
-    rows: CHAIN_ROWS,
 };

@@ -1,7 +1,7 @@
 //! Each node of a federation in threads is dropped at each of its sends in turn, and begun again over what its disk
 //! kept: the run comes to its end with all rows, an audit believes the logs, and nothing has left a node whose cause
 //! wasn't kept.
-use crate::barred::{coordinator_lives, federate_lives};
+use crate::barred::{Course, coordinator_lives, federate_lives};
 use crate::cases::RING;
 use crate::fuse::{ENDLESS, Fuse, LogLeft};
 use crate::given::Given;
@@ -37,36 +37,44 @@ struct Outside {
     over: AtomicUsize,
 }
 
+impl Outside {
+    // What a node is given in such a run.
+    fn course<'a, R>(&'a self, rt: &'a R, alloc: Global, given: &'a Given) -> Course<'a, R> {
+        Course {
+            rt,
+            alloc,
+            given,
+            finished: &self.finished,
+        }
+    }
+}
+
 // Runs the coordinator, and then nobody is let in until both federates are over.
 fn coordinates<R: Machine>(
-    rt: &R,
-    alloc: Global,
-    given: &Given,
+    course: &Course<'_, R>,
     outside: &Outside,
     coming: &Receiver<Coming>,
     fuse: Fuse,
 ) -> Result<LogLeft, Stop> {
-    let kept = coordinator_lives(rt, alloc, given, coming, &outside.finished, fuse);
-    for _ in rt.forever() {
+    let kept = coordinator_lives(course, coming, fuse);
+    for _ in course.rt.forever() {
         if outside.over.load(Ordering::SeqCst) == 2 {
             break;
         }
-        turn_away(rt, coming);
+        turn_away(course.rt, coming);
     }
     kept
 }
 
 // Runs a federate.
 fn joins<R: Machine>(
-    rt: &R,
-    alloc: Global,
-    given: &Given,
+    course: &Course<'_, R>,
     outside: &Outside,
     number: usize,
     to: &Sender<Coming>,
     fuse: Fuse,
 ) -> Result<LogLeft, Stop> {
-    let kept = federate_lives(rt, alloc, given, number, to, &outside.finished, fuse);
+    let kept = federate_lives(course, number, to, fuse);
     outside.over.fetch_add(1, Ordering::SeqCst);
     kept
 }
@@ -90,12 +98,12 @@ fn run<R: Machine>(
     let [first, second, own] = [0, 1, 2].map(|other| if other == place { fuse } else { ENDLESS });
     let (coordinator, (first, second)) = thread::join(
         rt,
-        || coordinates(rt, alloc, given, &outside, &coming, own),
+        || coordinates(&outside.course(rt, alloc, given), &outside, &coming, own),
         || {
             thread::join(
                 rt,
-                || joins(rt, alloc, given, &outside, 0, &to, first),
-                || joins(rt, alloc, given, &outside, 1, &to, second),
+                || joins(&outside.course(rt, alloc, given), &outside, 0, &to, first),
+                || joins(&outside.course(rt, alloc, given), &outside, 1, &to, second),
             )
         },
     );
@@ -147,60 +155,36 @@ fn sends_of<R: Machine>(
     Err((MOST_SENDS, Stop::DoesNotGoOn))
 }
 
-// Whether a ring goes on at whichever of its sends this node is dropped; else where it doesn't.
-fn goes_on<R: Machine>(
-    rt: &R,
-    alloc: Global,
-    place: usize,
-    is_kept: bool,
-) -> Result<bool, Option<(u64, Stop)>> {
+// Whether a ring goes on at whichever of its sends this node is dropped, whether what caused it is kept before or not;
+// else where it doesn't.
+fn goes_on<R: Machine>(rt: &R, alloc: Global, place: usize) -> Result<bool, Option<(u64, Stop)>> {
     let Some(given) = Given::load(alloc, &RING) else {
         return Err(None);
     };
-    match sends_of(rt, alloc, &given, place, is_kept) {
-        Ok(sends) => Ok(sends >= FEWEST_SENDS),
-        Err(exception) => Err(Some(exception)),
+    for is_kept in [false, true] {
+        match sends_of(rt, alloc, &given, place, is_kept) {
+            Ok(sends) if sends >= FEWEST_SENDS => {}
+            Ok(_) => return Ok(false),
+            Err(exception) => return Err(Some(exception)),
+        }
     }
+    Ok(true)
 }
 
 #[test]
 fn a_ring_goes_on_at_whichever_send_its_first_federate_is_dropped(rt: HostRuntime) {
-    let goes_on = goes_on(&rt, rt.alloc(), FIRST, false);
+    let goes_on = goes_on(&rt, rt.alloc(), FIRST);
     assert!(rt; matches!(goes_on, Ok(true)), "{goes_on:?}");
 }
 
 #[test]
 fn a_ring_goes_on_at_whichever_send_its_second_federate_is_dropped(rt: HostRuntime) {
-    let goes_on = goes_on(&rt, rt.alloc(), SECOND, false);
+    let goes_on = goes_on(&rt, rt.alloc(), SECOND);
     assert!(rt; matches!(goes_on, Ok(true)), "{goes_on:?}");
 }
 
 #[test]
 fn a_ring_goes_on_at_whichever_send_its_coordinator_is_dropped(rt: HostRuntime) {
-    let goes_on = goes_on(&rt, rt.alloc(), COORDINATOR, false);
-    assert!(rt; matches!(goes_on, Ok(true)), "{goes_on:?}");
-}
-
-#[test]
-fn a_ring_goes_on_at_whichever_send_its_first_federate_is_dropped_that_has_kept_its_cause(
-    rt: HostRuntime,
-) {
-    let goes_on = goes_on(&rt, rt.alloc(), FIRST, true);
-    assert!(rt; matches!(goes_on, Ok(true)), "{goes_on:?}");
-}
-
-#[test]
-fn a_ring_goes_on_at_whichever_send_its_second_federate_is_dropped_that_has_kept_its_cause(
-    rt: HostRuntime,
-) {
-    let goes_on = goes_on(&rt, rt.alloc(), SECOND, true);
-    assert!(rt; matches!(goes_on, Ok(true)), "{goes_on:?}");
-}
-
-#[test]
-fn a_ring_goes_on_at_whichever_send_its_coordinator_is_dropped_that_has_kept_its_cause(
-    rt: HostRuntime,
-) {
-    let goes_on = goes_on(&rt, rt.alloc(), COORDINATOR, true);
+    let goes_on = goes_on(&rt, rt.alloc(), COORDINATOR);
     assert!(rt; matches!(goes_on, Ok(true)), "{goes_on:?}");
 }

@@ -110,13 +110,4 @@ impl Given {
         );
         Some(Shared::new(desk.ok()?))
     }
-
-    /// One of each federate, by number.
-    pub(crate) fn federates(&self, alloc: Global) -> Option<Vec<Shared<Federate<'_>>>> {
-        let mut desks = Vec::new(alloc);
-        for number in 0..self.count() {
-            desks.push(self.federate(alloc, number)?).ok()?;
-        }
-        Some(desks)
-    }
 }

@@ -1,14 +1,12 @@
 /// Why a node makes no more steps, or what isn't as it has to be.
 #[derive(Clone, Copy, Debug)]
 pub(crate) enum Stop {
-    /// It was killed, or nothing may leave it any more.
+    /// Nothing may leave it any more.
     Fell,
     /// Something left it whose cause its disk didn't keep.
     LeftUnkept,
     /// Something left it that its barrier didn't let by, or the other way round.
     LeftUnasked,
-    /// Another node acknowledged a signal that was never offered to it.
-    OtherHistory,
     /// Begun again, it doesn't go on.
     DoesNotGoOn,
     /// The run doesn't come to its end.

@@ -1,13 +1,16 @@
-//! Tests of the words of the command line: which request they are, with which arguments and options, and which words
-//! are no command; what they give parameters of a source; and how a text is written.
+//! Tests of the words of the command line: what they give parameters of a source, what the tables of commands say, what
+//! is printed of each fault, and how a text is written. Which words are which command stands in the cases of
+//! `fedrun_cases`.
 //!
-//! Begin with `ask` in `requests`.
+//! Begin with `values`.
 #![tactic(auto)]
 
 #[cfg(test)]
-mod refused_bytes;
+mod faults;
 #[cfg(test)]
-mod requests;
+mod plain;
+#[cfg(test)]
+mod refused_bytes;
 #[cfg(test)]
 mod texts;
 #[cfg(test)]

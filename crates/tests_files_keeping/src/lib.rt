@@ -1,7 +1,5 @@
-//! Tests of logs that a disk keeps: over a file in memory of which each call fails in turn, with each front left of
-//! what wasn't synced, and over the machine's. No part of the product.
-//!
-//! Begin with `failing`.
+//! Tests of logs that a disk keeps: what is answered whichever call of a disk in memory fails, and a log on the
+//! machine's. No part of the product.
 #![tactic(auto)]
 
 #[cfg(test)]

@@ -1,12 +1,9 @@
-//! Tests of report files: bytes worked by hand, with digests by another program; files that were changed or cut, and
-//! files in which something else is said than a node can say.
+//! Tests of report files: bytes worked by hand, with digests by another program, and counts that no file has bytes for.
 //!
 //! Begin with `worked`.
 #![tactic(auto)]
 
 #[cfg(test)]
-mod changed;
-#[cfg(test)]
-mod false_files;
+mod counts;
 #[cfg(test)]
 mod worked;

@@ -1,5 +1,5 @@
 //! Two files worked by hand: of a federate that counted to two, and of a coordinator.
-use files_reports::{FileDigests, NodeReport, write_report};
+use files_reports::{FileDigests, NodeReport, read_report, write_report};
 use node::Event;
 use node_journal::Journal;
 use reactor::Rows;
@@ -25,7 +25,7 @@ const INPUTS_DIGEST: [u8; 32] = [
 ];
 
 /// What federate 0 says: two rows and three events.
-pub(crate) const SAID: [u8; 179] = [
+const SAID: [u8; 179] = [
     0, 0, // federate 0
     0, 0, 0, 0, 0, 0, 0, 2, // two rows
     0, 0, 0, 0, 0, 0, 0, 0, 0, 0, 0, 0, // at the first tag
@@ -84,11 +84,6 @@ pub(crate) fn file(alloc: Global, said: &[u8], seal: &[u8]) -> Result<Vec<u8>, A
     Ok(bytes)
 }
 
-/// The file of `src`.
-pub(crate) fn worked(alloc: Global) -> Result<Vec<u8>, AllocError> {
-    file(alloc, &SAID, &SEAL)
-}
-
 // At that many ns.
 fn at(nanoseconds: u64) -> Tag {
     match Time::new(nanoseconds) {
@@ -142,30 +137,25 @@ fn coordinated(alloc: Global) -> Option<NodeReport> {
     Some(NodeReport::Coordinator(Journal::of(alloc, &events).ok()?))
 }
 
-// Whether the bytes are the file of a report of the run.
-fn is_file_of(alloc: Global, report: Option<NodeReport>, bytes: &[u8]) -> Option<bool> {
+// Whether a report of the run is written as the file of what is said, and that file is read as a report.
+fn is_file_of(alloc: Global, report: Option<NodeReport>, said: &[u8], seal: &[u8]) -> Option<bool> {
+    let file = file(alloc, said, seal).ok()?;
     let written = write_report(alloc, &digests(), &report?).ok()?;
-    Some(written.as_slice() == bytes)
-}
-
-// Whether that is what `src` writes.
-fn is_written_of_src(alloc: Global) -> Option<bool> {
-    let file = worked(alloc).ok()?;
-    is_file_of(alloc, counted_twice(alloc), &file)
+    let is_read = read_report(alloc, &digests(), &file).is_ok();
+    Some(is_read && written.as_slice() == file.as_slice())
 }
 
 #[test]
-fn writes_what_a_federate_says(rt: HostRuntime) {
-    assert_eq!(rt; is_written_of_src(rt.alloc()), Some(true));
-}
-
-// Whether that is what the coordinator writes.
-fn is_written_of_coordinator(alloc: Global) -> Option<bool> {
-    let file = file(alloc, &COORDINATOR_SAID, &COORDINATOR_SEAL).ok()?;
-    is_file_of(alloc, coordinated(alloc), &file)
-}
-
-#[test]
-fn writes_what_the_coordinator_says(rt: HostRuntime) {
-    assert_eq!(rt; is_written_of_coordinator(rt.alloc()), Some(true));
+fn writes_and_reads_what_nodes_say(rt: HostRuntime) {
+    let alloc = rt.alloc();
+    let are_files = [
+        is_file_of(alloc, counted_twice(alloc), &SAID, &SEAL),
+        is_file_of(
+            alloc,
+            coordinated(alloc),
+            &COORDINATOR_SAID,
+            &COORDINATOR_SEAL,
+        ),
+    ];
+    assert_eq!(rt; are_files, [Some(true); 2]);
 }

@@ -1,6 +1,6 @@
-//! What stands after a name is reserved and a file is saved, whether that succeeds or a call of the disk fails.
+//! What stands after a name isn't reserved, as it is taken or a call of the disk fails.
 use crate::memory_disk::MemoryDisk;
-use crate::saved::{reserved, saved};
+use crate::saved::reserved;
 use files_saving::{Disk, ReserveFault, SaveFault};
 use std::alloc::Global;
 
@@ -12,9 +12,7 @@ const OTHER: &str = "run/src.report";
 
 const OLD: &[u8] = b"old";
 
-const NEW: &[u8] = b"new bytes";
-
-/// The half that is written where writing fails.
+/// What another has written so far.
 const PART: &[u8] = b"new ";
 
 const OTHERS: &[u8] = b"other";
@@ -44,26 +42,6 @@ fn stand(disk: &MemoryDisk, bytes: Option<&[u8]>, temporary: Option<&[u8]>) -> b
         && disk.bytes(TEMPORARY) == temporary
         && disk.bytes(OTHER) == Some(OTHERS)
         && disk.len() == count
-}
-
-// Whether a name that is free is reserved, and once more is refused; whether new bytes are saved then, the temporary
-// file isn't there any more, and the name is refused from then on.
-fn saves(alloc: Global) -> Option<bool> {
-    let mut disk = disk_with(alloc, None, None, None)?;
-    let first = reserved(alloc, &mut disk, NAME)?;
-    let is_reserved = first == Ok(()) && stand(&disk, None, Some(b""));
-    let second = reserved(alloc, &mut disk, NAME)?;
-    let is_kept = second == Err(ReserveFault::TemporaryTaken) && stand(&disk, None, Some(b""));
-    let answer = saved(alloc, &mut disk, NAME, NEW)?;
-    let is_saved = answer == Ok(()) && stand(&disk, Some(NEW), None);
-    let third = reserved(alloc, &mut disk, NAME)?;
-    let is_refused = third == Err(ReserveFault::NameTaken) && stand(&disk, Some(NEW), None);
-    Some(is_reserved && is_kept && is_saved && is_refused)
-}
-
-#[test]
-fn saves_a_file_under_a_name_that_was_reserved(rt: HostRuntime) {
-    assert_eq!(rt; saves(rt.alloc()), Some(true));
 }
 
 /// What stands under the name and the temporary one, what fails, and why the name isn't reserved. What stands then is
@@ -113,52 +91,6 @@ fn leaves_all_as_it_was_where_a_name_is_not_reserved(rt: HostRuntime) {
         });
         assert_eq!(rt; told, Some((Err(*fault), true)), "{fault:?}");
     }
-}
-
-/// What fails as a file is saved under a name that was reserved, and what the temporary file holds then.
-const UNSAVED: &[(SaveFault, &[u8])] = &[
-    (SaveFault::CannotWrite, PART),
-    (SaveFault::CannotSync, NEW),
-    (SaveFault::CannotRename, NEW),
-];
-
-// Whether it is answered that this call failed, there is no file of the name then, and the temporary one holds this, so
-// that the name stays reserved.
-fn is_unsaved(alloc: Global, fails: SaveFault, left: &[u8]) -> Option<bool> {
-    let mut disk = disk_with(alloc, None, None, None)?;
-    let is_reserved = reserved(alloc, &mut disk, NAME)? == Ok(());
-    disk.fails = Some(fails);
-    let answer = saved(alloc, &mut disk, NAME, NEW)?;
-    let is_left = stand(&disk, None, Some(left));
-    disk.fails = None;
-    let again = reserved(alloc, &mut disk, NAME)?;
-    let is_refused = again == Err(ReserveFault::TemporaryTaken) && stand(&disk, None, Some(left));
-    Some(is_reserved && answer == Err(fails) && is_left && is_refused)
-}
-
-#[test]
-fn leaves_the_temporary_file_whichever_call_fails(rt: HostRuntime) {
-    for (fails, left) in UNSAVED {
-        assert_eq!(rt;
-            is_unsaved(rt.alloc(), *fails, left),
-            Some(true),
-            "{fails:?}"
-        );
-    }
-}
-
-// Whether a file that got the name meanwhile stays as it is, and the temporary one has all bytes.
-fn leaves_another(alloc: Global) -> Option<bool> {
-    let mut disk = disk_with(alloc, None, None, None)?;
-    let is_reserved = reserved(alloc, &mut disk, NAME)? == Ok(());
-    disk.put(NAME, OLD)?;
-    let answer = saved(alloc, &mut disk, NAME, NEW)?;
-    Some(is_reserved && answer == Err(SaveFault::Exists) && stand(&disk, Some(OLD), Some(NEW)))
-}
-
-#[test]
-fn replaces_no_file_that_got_the_name_meanwhile(rt: HostRuntime) {
-    assert_eq!(rt; leaves_another(rt.alloc()), Some(true));
 }
 
 /// A disk on which somebody else, who had reserved the name, saves his file just before the temporary file is made.

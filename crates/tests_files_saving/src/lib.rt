@@ -1,5 +1,5 @@
-//! Tests of names that are reserved, and of files that are saved under them whole or not at all: over a disk in memory
-//! of which each call fails in turn, and over the machine's. No part of the product.
+//! Tests of names that are reserved, or not, over a disk in memory of which a call fails; and of files that are saved
+//! under them whole or not at all, on the machine's. No part of the product.
 //!
 //! Begin with `failing`.
 #![tactic(auto)]

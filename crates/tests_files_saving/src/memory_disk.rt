@@ -1,4 +1,4 @@
-//! A disk in memory, of which a call may fail.
+//! A disk in memory on which names are reserved, and of which a call may fail. Nothing is saved on it.
 ghost use Rattle.std.specs.Prelude.{◌≡◌};
 
 use files_saving::{Disk, SaveFault};
@@ -16,8 +16,8 @@ struct NamedFile {
 pub(crate) struct MemoryDisk {
     alloc: Global,
     files: Vec<NamedFile>,
-    /// How the call fails that fails, if one does.
-    pub fails: Option<SaveFault>,
+    // How the call fails that fails, if one does.
+    fails: Option<SaveFault>,
 }
 
 impl MemoryDisk {
@@ -67,17 +67,6 @@ impl MemoryDisk {
             None
         }
     }
-
-    // Gives a file these bytes, or a half of them where that is said; None where there is no memory.
-    fn fill(&mut self, name: &str, bytes: &[u8]) -> Option<()> {
-        self.take(name);
-        if self.fails == Some(SaveFault::CannotWrite) {
-            self.put(name, &bytes[..bytes.len() / 2])?;
-            None
-        } else {
-            self.put(name, bytes)
-        }
-    }
 }
 
 impl Disk for MemoryDisk {
@@ -106,30 +95,12 @@ impl Disk for MemoryDisk {
         Ok(())
     }
 
-    fn write(&mut self, name: &str, bytes: &[u8]) -> Result<(), SaveFault> {
-        if self.fill(name, bytes).is_none() {
-            return Err(SaveFault::CannotWrite);
-        }
-        if self.fails == Some(SaveFault::CannotSync) {
-            return Err(SaveFault::CannotSync);
-        }
-        Ok(())
+    fn write(&mut self, _name: &str, _bytes: &[u8]) -> Result<(), SaveFault> {
+        Err(SaveFault::CannotWrite)
     }
 
-    fn rename(&mut self, from: &str, to: &str) -> Result<(), SaveFault> {
-        if self.fails == Some(SaveFault::CannotRename) {
-            return Err(SaveFault::CannotRename);
-        }
-        if self.place_of(to).is_some() {
-            return Err(SaveFault::Exists);
-        }
-        let Some(file) = self.take(from) else {
-            return Err(SaveFault::CannotRename);
-        };
-        match self.put(to, &file.bytes) {
-            Some(()) => Ok(()),
-            None => Err(SaveFault::CannotRename),
-        }
+    fn rename(&mut self, _from: &str, _to: &str) -> Result<(), SaveFault> {
+        Err(SaveFault::CannotRename)
     }
 
     fn remove(&mut self, name: &str) {

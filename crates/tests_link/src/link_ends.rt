@@ -123,8 +123,6 @@ fn refuses_what_it_has_no_room_for(rt: HostRuntime) {
         Step::Refused(ack(3), LinkFault::AckOfUnsent),
         Step::Refused(hello(4, 3), LinkFault::AckOfUnsent),
         Step::Refused(hello(5, 2), LinkFault::Stranger),
-        Step::Closes,
-        Step::Refused(ack(0), LinkFault::Closed),
     ];
     assert_eq!(rt; first_wrong(rt.alloc(), 1, &steps), None);
 }
@@ -162,15 +160,15 @@ fn takes_signals_in_turn(rt: HostRuntime) {
     assert_eq!(rt; first_wrong(rt.alloc(), 3, &steps), None);
 }
 
-#[test]
-fn is_closed_by_a_refusal(rt: HostRuntime) {
+// The place of the first step that an end doesn't do which is closed so.
+fn wrong_once_closed(alloc: Global, closing: Step) -> Option<usize> {
     let stranger = Frame::Ack {
         incarnation: 2,
         last_taken: 9,
     };
     let steps = [
         Step::Offered(1, data(1, 1)),
-        Step::Came(refuse(71), Arrival::Closed),
+        closing,
         Step::Refused(data(1, 1), LinkFault::Closed),
         Step::Refused(ack(9), LinkFault::Closed),
         Step::Refused(hello(4, 0), LinkFault::Closed),
@@ -180,5 +178,12 @@ fn is_closed_by_a_refusal(rt: HostRuntime) {
         Step::Says(None, ack(0)),
         Step::Resends(0, None),
     ];
-    assert_eq!(rt; first_wrong(rt.alloc(), 3, &steps), None);
+    first_wrong(alloc, 3, &steps)
+}
+
+#[test]
+fn is_closed_by_a_refusal_and_by_this_side(rt: HostRuntime) {
+    for closing in [Step::Came(refuse(71), Arrival::Closed), Step::Closes] {
+        assert_eq!(rt; wrong_once_closed(rt.alloc(), closing), None);
+    }
 }

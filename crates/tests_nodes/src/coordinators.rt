@@ -1,12 +1,10 @@
 //! The coordinator at its station: how far it grants, and what it refuses.
 use crate::steps::{Coming, Part, Said, Step, answered};
-use coordinator::Coordinator;
-use link::LinkEnd;
 use loadfed::load;
-use node::Station;
 use plan::Plan;
 use std::alloc::Global;
 use tests_samples::{COUNTER, LOOP, STARTED_COUNTER};
+use world::new_coordinator;
 
 /// Two federates, of which one sends to the other.
 const PAIR: &str = r#"stop = "100 ms"
@@ -161,7 +159,7 @@ const REFUSALS: &[Course] = &[
             (
                 Coming::From(0, Part::Data(2, Said::Msg(0, 40 * MILLISECOND, 0))),
                 Some(71),
-                &[(0, Part::Refuse(71))],
+                &[(0, Part::Refuse(1, 71))],
             ),
             (Coming::From(0, Part::Data(2, Said::Forever)), Some(55), &[]),
         ],
@@ -173,7 +171,7 @@ const REFUSALS: &[Course] = &[
             (
                 Coming::From(0, Part::Data(1, Said::Tag(0, 0))),
                 Some(75),
-                &[(0, Part::Refuse(75))],
+                &[(0, Part::Refuse(1, 75))],
             ),
             (Coming::From(0, Part::Data(1, Said::Forever)), Some(55), &[]),
         ],
@@ -185,7 +183,7 @@ const REFUSALS: &[Course] = &[
             (
                 Coming::From(0, Part::Data(1, Said::Msg(1, 0, 0))),
                 Some(70),
-                &[(0, Part::Refuse(70))],
+                &[(0, Part::Refuse(1, 70))],
             ),
             (Coming::From(0, Part::Data(1, Said::Forever)), Some(55), &[]),
         ],
@@ -197,7 +195,7 @@ const REFUSALS: &[Course] = &[
             (
                 Coming::From(1, Part::Data(1, Said::Msg(0, 0, 0))),
                 Some(70),
-                &[(1, Part::Refuse(70))],
+                &[(1, Part::Refuse(1, 70))],
             ),
             (Coming::From(1, Part::Data(1, Said::Forever)), Some(55), &[]),
         ],
@@ -209,7 +207,7 @@ const REFUSALS: &[Course] = &[
             (
                 Coming::From(0, Part::Data(1, Said::Msg(0, LATE, 1))),
                 Some(73),
-                &[(0, Part::Refuse(73))],
+                &[(0, Part::Refuse(1, 73))],
             ),
             (Coming::From(0, Part::Data(1, Said::Forever)), Some(55), &[]),
         ],
@@ -221,7 +219,7 @@ const REFUSALS: &[Course] = &[
             (
                 Coming::From(0, Part::Data(1, Said::Net(LATE, 1))),
                 Some(73),
-                &[(0, Part::Refuse(73))],
+                &[(0, Part::Refuse(1, 73))],
             ),
             (Coming::From(0, Part::Data(1, Said::Forever)), Some(55), &[]),
         ],
@@ -238,28 +236,73 @@ const REFUSALS: &[Course] = &[
             (
                 Coming::From(0, Part::Data(2, Said::Net(10 * MILLISECOND, 0))),
                 Some(72),
-                &[(0, Part::Refuse(72))],
+                &[(0, Part::Refuse(1, 72))],
             ),
             (Coming::From(0, Part::Data(2, Said::Forever)), Some(55), &[]),
         ],
     ),
 ];
 
-// The ends of a coordinator's links.
-fn ends(alloc: Global, federates: usize) -> Option<Vec<LinkEnd>> {
-    let mut ends = Vec::new(alloc);
-    for federate in 0..federates {
-        let federate = u16::try_from(federate).ok()?;
-        ends.push(LinkEnd::new(alloc, federate, 1, 64)).ok()?;
-    }
-    Some(ends)
-}
+/// What a fresh coordinator answers to a frame that its end refuses by itself, and that the link stays open.
+const LEFT_OPEN: &[Course] = &[
+    (
+        "a NET",
+        PAIR,
+        &[(
+            Coming::From(0, Part::Data(1, Said::Forever)),
+            None,
+            &[(0, Part::Ack(1))],
+        )],
+    ),
+    (
+        "an Ack of what wasn't sent",
+        PAIR,
+        &[
+            (Coming::From(0, Part::Ack(1)), Some(53), &[]),
+            (
+                Coming::From(0, Part::Data(1, Said::Forever)),
+                None,
+                &[(0, Part::Ack(1))],
+            ),
+        ],
+    ),
+    (
+        "a number above the next",
+        PAIR,
+        &[
+            (
+                Coming::From(0, Part::Data(2, Said::Net(0, 0))),
+                Some(52),
+                &[],
+            ),
+            (
+                Coming::From(0, Part::Data(1, Said::Forever)),
+                None,
+                &[(0, Part::Ack(1))],
+            ),
+        ],
+    ),
+    (
+        "a Hello of another incarnation",
+        PAIR,
+        &[
+            (
+                Coming::From(0, Part::Hello(2)),
+                Some(51),
+                &[(0, Part::Refuse(2, 51))],
+            ),
+            (
+                Coming::From(0, Part::Data(1, Said::Forever)),
+                None,
+                &[(0, Part::Ack(1))],
+            ),
+        ],
+    ),
+];
 
 // How many of these steps the coordinator of a plan answers so before one it doesn't.
 fn answered_by(alloc: Global, plan: &Plan, steps: &[Step]) -> Option<usize> {
-    let ends = ends(alloc, plan.federate_count())?;
-    let coordinator = Coordinator::new(alloc, plan).ok()?;
-    answered(&mut Station::new(alloc, coordinator, ends), steps)
+    answered(&mut new_coordinator(alloc, plan).ok()?, steps)
 }
 
 // Whether all of these steps are answered so by the coordinator of a federation.
@@ -288,4 +331,9 @@ fn grants_as_far_as_nothing_can_arrive(rt: HostRuntime) {
 #[test]
 fn closes_the_link_of_a_federate_that_breaks_a_rule(rt: HostRuntime) {
     assert_eq!(rt; first_wrong(rt.alloc(), REFUSALS), None);
+}
+
+#[test]
+fn leaves_a_link_open_whose_end_refuses(rt: HostRuntime) {
+    assert_eq!(rt; first_wrong(rt.alloc(), LEFT_OPEN), None);
 }

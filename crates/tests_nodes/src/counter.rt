@@ -34,7 +34,7 @@ impl Node for Counter {
 
     ghost listed = { λ none. [] };
 
-    ghost IS_COORDINATOR = { true };
+    ghost HUB = { true };
 
     ghost core = { counting };
 

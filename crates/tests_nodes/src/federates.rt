@@ -1,14 +1,15 @@
-//! Federates at their stations: what the counter's two answer to each event, late messages and old grants.
+//! Federates at their stations: what the counter's two answer to each event, and which rows they have; late messages
+//! and old grants.
+use crate::rows::are_first;
+use crate::stations::federate_station;
 use crate::steps::{Coming, Part, Said, Step, answered};
-use federate::Federate;
-use link::LinkEnd;
-use node::Station;
+use node::Node;
 use std::alloc::Global;
-use tests_samples::{COUNTER, Federation, loaded};
+use tests_samples::{COUNTER, Federation, with_loaded};
 
-const SRC: usize = 0;
+const SRC: u16 = 0;
 
-const SNK: usize = 1;
+const SNK: u16 = 1;
 
 const TEN_MS: u64 = 10_000_000;
 
@@ -99,52 +100,45 @@ const COUNT: &[Step] = &[
     ),
 ];
 
-// How many of these steps a federate of this number answers so before one it doesn't.
-fn answered_by(
-    alloc: Global,
-    federation: &Federation,
-    number: usize,
-    steps: &[Step],
-) -> Option<usize> {
-    if number >= federation.plan().federate_count() {
-        return None;
+/// What is shown, a federate's number, its steps, and how many rows it has then.
+type Course = (&'static str, u16, &'static [Step], usize);
+
+const COURSES: &[Course] = &[
+    ("a tag is run once it is granted", SNK, SUM, 1),
+    (
+        "messages and TAGs at or below the last grant are refused",
+        SNK,
+        LATE,
+        0,
+    ),
+    ("a message is sent before its LTC", SRC, COUNT, 1),
+];
+
+// Whether a federate answers its steps so, and has its first rows then.
+fn is_gone(alloc: Global, federation: &Federation, course: &Course) -> bool {
+    let (_, number, steps, rows) = course;
+    match federate_station(alloc, federation, *number) {
+        Some(mut station) => answered(&mut station, steps) == Some(steps.len())
+            && are_first(station.node().rows(), usize::from(*number), *rows),
+        None => false,
     }
-    let mut ends = Vec::new(alloc);
-    ends.push(LinkEnd::new(alloc, 0, 1, 64)).ok()?;
-    let federate = Federate::new(
-        alloc,
-        federation.plan(),
-        federation.programs(),
-        federation.inputs(),
-        number,
-    )
-    .ok()?;
-    answered(&mut Station::new(alloc, federate, ends), steps)
 }
 
-// The same of the counter's.
-fn answered_by_counter(alloc: Global, number: usize, steps: &[Step]) -> Option<usize> {
-    let federation = loaded(alloc, COUNTER, "")?;
-    answered_by(alloc, &federation, number, steps)
+// What the first course shows that isn't gone so.
+fn first_wrong(alloc: Global, federation: &Federation) -> Option<&'static str> {
+    for course in COURSES {
+        if !is_gone(alloc, federation, course) {
+            return Some(course.0);
+        }
+    }
+    None
 }
 
 #[test]
-fn runs_a_tag_once_it_is_granted(rt: HostRuntime) {
-    assert_eq!(rt; answered_by_counter(rt.alloc(), SNK, SUM), Some(SUM.len()));
-}
-
-#[test]
-fn refuses_messages_and_tags_at_or_below_the_last_grant(rt: HostRuntime) {
-    assert_eq!(rt;
-        answered_by_counter(rt.alloc(), SNK, LATE),
-        Some(LATE.len())
-    );
-}
-
-#[test]
-fn sends_a_message_before_its_ltc(rt: HostRuntime) {
-    assert_eq!(rt;
-        answered_by_counter(rt.alloc(), SRC, COUNT),
-        Some(COUNT.len())
-    );
+fn answers_and_runs_by_the_rules(rt: HostRuntime) {
+    let alloc = rt.alloc();
+    let wrong = with_loaded(alloc, COUNTER, "", |counter| {
+        Some(first_wrong(alloc, counter))
+    });
+    assert_eq!(rt; wrong, Some(None));
 }

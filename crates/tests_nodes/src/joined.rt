@@ -9,11 +9,11 @@ use std::alloc::{AllocError, Global};
 
 /// Numbers made up from a seed.
 #[derive(Clone, Copy)]
-struct Chance(u64);
+pub(crate) struct Chance(pub u64);
 
 impl Chance {
     /// A number below this one.
-    fn below(&mut self, limit: usize) -> usize
+    pub(crate) fn below(&mut self, limit: usize) -> usize
         requires { 0 < limit }
         ensures { result < limit }
     {

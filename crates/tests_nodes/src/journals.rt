@@ -1,5 +1,4 @@
-//! In how little room journals keep their events, how many they compare or take off at once, and where they look for
-//! one first, which no contract says.
+//! How many events journals compare at once, and where they look for one first, which no contract says.
 use node::Event;
 use node_journal::{Batch, Blocks, Journal};
 use std::alloc::{AllocError, Global};
@@ -35,60 +34,6 @@ fn twice(alloc: Global, turns: u32) -> Result<Journal, AllocError> {
     Ok(journal)
 }
 
-// How many events such a journal has, and in how many blocks it keeps them; then the same of its copy from the third
-// event on.
-fn kept(alloc: Global, turns: u32) -> Result<[usize; 4], AllocError> {
-    let journal = twice(alloc, turns)?;
-    let mut copy = Journal::new(alloc);
-    copy.append(&journal, 2, usize::MAX)?;
-    Ok([
-        journal.len(),
-        journal.block_count(),
-        copy.len(),
-        copy.block_count(),
-    ])
-}
-
-#[test]
-fn keeps_what_came_together_and_the_turns_behind_it_in_one_block(rt: HostRuntime) {
-    let kept = [0, 1, 500].map(|turns| kept(rt.alloc(), turns));
-    let expected = [Ok([6, 2, 4, 2]), Ok([10, 2, 8, 2]), Ok([2006, 2, 2004, 2])];
-    assert_eq!(rt; kept, expected);
-}
-
-// How many events a copy has of the first two of what comes together, and in how many blocks it keeps them.
-fn first_kept(alloc: Global) -> Result<(usize, usize), AllocError> {
-    let mut journal = Journal::new(alloc);
-    add_together(alloc, &mut journal)?;
-    let mut copy = Journal::new(alloc);
-    copy.append(&journal, 0, 2)?;
-    Ok((copy.len(), copy.block_count()))
-}
-
-#[test]
-fn keeps_a_part_of_what_came_together_in_one_block(rt: HostRuntime) {
-    assert_eq!(rt; first_kept(rt.alloc()), Ok((2, 1)));
-}
-
-// In how many blocks a journal keeps events of turns, of which it gets these counts at once.
-fn blocks_of_turns(alloc: Global, counts: &[usize]) -> Result<usize, AllocError> {
-    let mut journal = Journal::new(alloc);
-    for count in counts {
-        journal.push_turns(*count)?;
-    }
-    Ok(journal.block_count())
-}
-
-// Behind an announcement alone, turns that begin with another one are a block of their own.
-#[test]
-fn keeps_turns_behind_turns_in_one_block(rt: HostRuntime) {
-    let blocks = [
-        blocks_of_turns(rt.alloc(), &[0, 2, 400, 6]),
-        blocks_of_turns(rt.alloc(), &[2, 3, 2, 2]),
-    ];
-    assert_eq!(rt; blocks, [Ok(1), Ok(2)]);
-}
-
 // How many events two such journals have in common from a place on, as far as that is seen at once.
 fn common(alloc: Global, place: usize) -> Option<usize> {
     let journal = twice(alloc, 2).ok()?;
@@ -118,22 +63,6 @@ fn first_other_count(alloc: Global) -> Option<usize> {
 #[test]
 fn compares_whole_blocks(rt: HostRuntime) {
     assert_eq!(rt; first_other_count(rt.alloc()), None);
-}
-
-// How many slips of what comes together are left behind those that a journal's block with the same events takes off.
-fn left(alloc: Global) -> Option<usize> {
-    let mut journal = Journal::new(alloc);
-    let mut slips = Blocks::new(alloc);
-    let batch = Batch::new(alloc, &TOGETHER).ok()?;
-    journal.push_batch(&batch).ok()?;
-    slips.add_batch(0, &batch).ok()?;
-    slips.pop_block(0, journal.block_between(0, 0, TOGETHER.len())?);
-    Some(slips.len())
-}
-
-#[test]
-fn takes_a_whole_block_off(rt: HostRuntime) {
-    assert_eq!(rt; left(rt.alloc()), Some(0));
 }
 
 // Blocks of one event each, whose places are these.

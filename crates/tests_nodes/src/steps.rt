@@ -1,6 +1,6 @@
 //! Steps of a station as rows of a table, and how many of them it answers so.
 use node::{Event, Node, Outgoing, Reply, Station};
-use signal::{Frame, Signal};
+use signal::{Frame, Hello, Signal};
 use tag::{FiniteTag, Tag, Time};
 
 /// A signal; its tag as a time in ns and a microstep. Each message has the value 1.
@@ -31,16 +31,20 @@ impl Said {
     }
 }
 
-fn at(time: u64, microstep: u32) -> FiniteTag {
+/// A tag at a time in ns.
+pub(crate) fn at(time: u64, microstep: u32) -> FiniteTag {
     FiniteTag::new(Time::new(time).unwrap_or(Time::zero()), microstep)
 }
 
-/// A frame between a station and a peer, of the first incarnation.
+/// A frame between a station and a peer, of the first incarnation where it names none.
 #[derive(Clone, Copy)]
 pub(crate) enum Part {
     Ack(u64),
     Data(u64, Said),
-    Refuse(u16),
+    /// Of an incarnation, to which it says this number.
+    Refuse(u32, u16),
+    /// Of federate 0 in an incarnation, which has taken nothing.
+    Hello(u32),
 }
 
 impl Part {
@@ -55,10 +59,15 @@ impl Part {
                 number,
                 signal: said.signal(),
             },
-            Part::Refuse(refusal) => Frame::Refuse {
-                incarnation: 1,
+            Part::Refuse(incarnation, refusal) => Frame::Refuse {
+                incarnation,
                 refusal,
             },
+            Part::Hello(incarnation) => Frame::Hello(Hello {
+                federate: 0,
+                incarnation,
+                last_taken: 0,
+            }),
         }
     }
 }

@@ -2,7 +2,6 @@
 use crate::machine::CommandMachine;
 use crate::outcome::{Outcome, outcome_of};
 use std::net::{Net, TcpListener, TcpStream};
-use tests_samples::joined;
 
 /// Stands between two parts of a text for whatever is there.
 pub const ANY: &str = "(anything)";
@@ -16,17 +15,6 @@ pub type Answer = (
     &'static [&'static str],
 );
 
-/// Files, and what words are answered over them.
-#[derive(Clone, Copy)]
-pub struct Case {
-    /// The file `f`, in parts.
-    pub federation: &'static [&'static str],
-    /// The file `i`, which is `-i` too.
-    pub inputs: &'static str,
-    /// The file `s`, which is `-` too, and what is answered with it.
-    pub schedules: &'static [(&'static str, &'static [Answer])],
-}
-
 /// Words that aren't answered as a table says.
 #[derive(Debug, PartialEq, Eq, Drop)]
 pub struct WrongAnswer {
@@ -36,64 +24,8 @@ pub struct WrongAnswer {
     pub outcome: Option<Outcome>,
 }
 
-/// How many lists of words the cases have. Each of them is answered as it should be; else the first that isn't.
-pub fn answered<R: CommandMachine + Net<Stream = TcpStream, Listener = TcpListener>>(
-    rt: &R,
-    cases: &[Case],
-) -> Result<usize, WrongAnswer> {
-    let mut count = 0;
-    for case in cases {
-        count = answered_in(rt, case, count)?;
-    }
-    Ok(count)
-}
-
-// The same of a case, behind others of so many lists of words.
-fn answered_in<R: CommandMachine + Net<Stream = TcpStream, Listener = TcpListener>>(
-    rt: &R,
-    case: &Case,
-    before: usize,
-) -> Result<usize, WrongAnswer> {
-    let Some(federation) = joined(rt.alloc(), case.federation) else {
-        return Err(WrongAnswer {
-            place: before,
-            outcome: None,
-        });
-    };
-    let mut count = before;
-    for (schedule, answers) in case.schedules {
-        count = answered_with(
-            rt,
-            federation.as_str(),
-            case.inputs,
-            schedule,
-            answers,
-            count,
-        )?;
-    }
-    Ok(count)
-}
-
-// The same of answers over a federation, its inputs and a schedule.
-fn answered_with<'x, R: CommandMachine + Net<Stream = TcpStream, Listener = TcpListener>>(
-    rt: &R,
-    federation: &'x str,
-    inputs: &'x str,
-    schedule: &'x str,
-    answers: &[Answer],
-    before: usize,
-) -> Result<usize, WrongAnswer> {
-    let files = [
-        ("f", federation.as_bytes()),
-        ("i", inputs.as_bytes()),
-        ("-i", inputs.as_bytes()),
-        ("s", schedule.as_bytes()),
-        ("-", schedule.as_bytes()),
-    ];
-    answered_over(rt, &files, answers, before)
-}
-
-/// The same of answers over files of these names and bytes.
+/// How many lists of words there are, behind others of so many, over files of these names and bytes. Each of them is
+/// answered as it should be; else the first that isn't.
 pub fn answered_over<R: CommandMachine + Net<Stream = TcpStream, Listener = TcpListener>>(
     rt: &R,
     files: &[(&str, &[u8])],

@@ -1,13 +1,12 @@
 //! What a command answers and writes, over files in memory.
 use crate::machine::CommandMachine;
 use crate::named_files::NamedFiles;
-use fedrun_commands::command;
+use fedrun_commands::answer;
 use fedrun_files::Files;
 use fedrun_progress::{NoProgress, Progress};
 use std::alloc::Global;
 use std::io::Write;
 use std::net::{Net, TcpListener, TcpStream};
-use tests_samples::joined;
 
 /// What a command answered and wrote.
 #[derive(Debug, PartialEq, Eq, Drop)]
@@ -42,7 +41,7 @@ pub fn status_into<
     P: Progress + Sync,
 >(rt: &R, words: &[&str], files: &mut F, out: &mut O, err: &mut E, progress: &P) -> Option<u8> {
     let words = given(rt.alloc(), words)?;
-    Some(command(rt, words.as_slice(), files, out, err, progress))
+    Some(answer(rt, words.as_slice(), files, out, err, progress).status)
 }
 
 /// What the words give over these files, where the command tells how far it is; None where there is no memory for the
@@ -78,22 +77,6 @@ pub fn outcome_of<R: CommandMachine + Net<Stream = TcpStream, Listener = TcpList
     files: &[(&str, &[u8])],
 ) -> Option<Outcome> {
     outcome_over(rt, words, &mut NamedFiles::new(rt.alloc(), files))
-}
-
-/// The same over the files `fed.toml` and `in.toml`, each of parts; None where there is no memory for these too.
-pub fn outcome_of_parts<R: CommandMachine + Net<Stream = TcpStream, Listener = TcpListener>>(
-    rt: &R,
-    words: &[&str],
-    federation: &[&str],
-    inputs: &[&str],
-) -> Option<Outcome> {
-    let federation = joined(rt.alloc(), federation)?;
-    let inputs = joined(rt.alloc(), inputs)?;
-    let files = [
-        ("fed.toml", federation.as_str().as_bytes()),
-        ("in.toml", inputs.as_str().as_bytes()),
-    ];
-    outcome_of(rt, words, &files)
 }
 
 /// The status, and what is on standard output and on standard error; None where there is no outcome.

@@ -229,14 +229,6 @@ fn tells_the_version_of_the_last_hello_given(rt: HostRuntime) {
     }
 }
 
-// ---- how they are read
-
-#[test]
-fn waits_for_a_body_of_65_bytes(rt: HostRuntime) {
-    let mut reader = FrameReader::new(rt.alloc());
-    assert!(rt; reader.feed(&[0, 0, 0, 0x41]).is_ok() && reader.next() == Ok(None));
-}
-
 // ---- what is refused
 
 /// Changed bytes of the two signals, behind which stands one byte more, and the number of the refusal that they meet.

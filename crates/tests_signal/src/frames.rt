@@ -172,6 +172,16 @@ fn reads_frames_in_any_pieces(rt: HostRuntime) -> Result<(), Fail> {
     Ok(())
 }
 
+/// Bytes that end inside a frame: before its body of 65 bytes, and inside that of an acknowledgement.
+const BEGUN: [&[u8]; 2] = [&[0, 0, 0, 0x41], &[0, 0, 0, 0x0d, 0x03, 0, 0, 0, 1]];
+
+#[test]
+fn waits_for_the_rest_of_a_frame(rt: HostRuntime) {
+    for bytes in BEGUN {
+        assert!(rt; are_read(rt.alloc(), bytes, 1000, &[]));
+    }
+}
+
 /// Bytes, and the number of the refusal that they meet.
 const REFUSED: [(&[u8], u16); 10] = [
     (&[0, 0, 0, 0], 40),

@@ -1,4 +1,4 @@
-//! Tests of the undivided program and of the agendas that it keeps: the rows of a counter, and which of several values
+//! Tests of the undivided program and of what it is made of: the rows of a counter, turns, and which of several values
 //! for one slot counts.
 //!
 //! Begin with `rows`, then `puts`; `opened` loads what both run.
@@ -10,3 +10,5 @@ mod opened;
 mod puts;
 #[cfg(test)]
 mod rows;
+#[cfg(test)]
+mod turns;

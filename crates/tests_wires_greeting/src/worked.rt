@@ -1,9 +1,25 @@
 //! Greetings worked by hand: what each side sends, byte by byte, and what comes of it. The digests are those of another
 //! implementation.
-use crate::sides::{ALL, COORDINATOR_RANDOM, FEDERATE_RANDOM, SECRET, files};
 use std::alloc::Global;
 use std::net::{IpAddr, Ipv4Addr};
-use wires_greeting::{CoordinatorSide, FederateSide, Greeting, Key};
+use wires_greeting::{CoordinatorSide, FederateSide, Greeting, Key, files_digest};
+
+const SECRET: &[u8] = b"0123456789abcdef";
+
+/// Who may take part, of four federates: all.
+const ALL: [bool; 4] = [true; 4];
+
+/// The federate's random bytes.
+const FEDERATE_RANDOM: [u8; 32] = [
+    0, 1, 2, 3, 4, 5, 6, 7, 8, 9, 10, 11, 12, 13, 14, 15, 16, 17, 18, 19, 20, 21, 22, 23, 24, 25,
+    26, 27, 28, 29, 30, 31,
+];
+
+/// The coordinator's.
+const COORDINATOR_RANDOM: [u8; 32] = [
+    32, 33, 34, 35, 36, 37, 38, 39, 40, 41, 42, 43, 44, 45, 46, 47, 48, 49, 50, 51, 52, 53, 54, 55,
+    56, 57, 58, 59, 60, 61, 62, 63,
+];
 
 /// The protocol, federate 3, the digest of the files "federation" and "inputs", and the federate's random bytes.
 const GREETING: &str = "66656472756e2031\
@@ -11,7 +27,7 @@ const GREETING: &str = "66656472756e2031\
 572b6b97a26c898997271341cc81715a609946eaf2baa0bf155a98f3ac368a21\
 000102030405060708090a0b0c0d0e0f101112131415161718191a1b1c1d1e1f";
 
-/// The coordinator's random bytes.
+/// The coordinator's random bytes, as they are written.
 const RANDOM: &str = "202122232425262728292a2b2c2d2e2f303132333435363738393a3b3c3d3e3f";
 
 /// A secret, or none, and whether the run is finished; the coordinator's answer, and what both sides prove.
@@ -81,13 +97,14 @@ fn are(alloc: Global, bytes: &[u8], text: &str) -> bool {
 // Whether both sides say so, and federate 3 is let in by it, or was told that the run is finished, and not before.
 fn is_as_worked(alloc: Global, worked: &Worked) -> Option<bool> {
     let key = key_of(worked.secret)?;
+    let files = files_digest(b"federation", b"inputs");
     let greeting = Greeting {
         federate: 3,
-        files: files(),
+        files,
         random: FEDERATE_RANDOM,
     };
     let mut federate = FederateSide::new(key, greeting);
-    let mut coordinator = CoordinatorSide::new(key, files());
+    let mut coordinator = CoordinatorSide::new(key, files);
     let message = federate.message();
     let challenge = coordinator.greeted(&message, &COORDINATOR_RANDOM, &ALL, worked.finished)?;
     let proof = federate.challenged(&challenge)?;
@@ -109,12 +126,9 @@ fn is_as_worked(alloc: Global, worked: &Worked) -> Option<bool> {
 
 // The place of the first that isn't.
 fn first_wrong(alloc: Global) -> Option<usize> {
-    for (place, worked) in WORKED.iter().enumerate() {
-        if is_as_worked(alloc, worked) != Some(true) {
-            return Some(place);
-        }
-    }
-    None
+    WORKED
+        .iter()
+        .position(|worked| is_as_worked(alloc, worked) != Some(true))
 }
 
 #[test]

@@ -1,14 +1,10 @@
 //! How long attempts to connect wait.
 use crate::entrance::{
-    Entrance, Host, LONG_MS, Machine, greeting_at, host_of, host_to, listener_of, visited,
+    Entrance, Host, Machine, greeting_at, host_of, host_to, listener_of, visited,
 };
 use crate::process::{Meeting, Process, failed, is_told, meet, met};
 use crate::simulated::{Counting, EndsAt, Meanwhile, Nothing, Simulated, attempted_until};
-use std::io::Read;
 use std::net::{Net, TcpListener, TcpStream};
-use std::sync::Wait;
-use std::time::Duration;
-use wires_hosts::attempts::Attempts;
 use wires_hosts::{DialFault, FederateHost, HostDial, Unreached};
 use wires_transports::{Dial, Transport};
 
@@ -95,22 +91,6 @@ fn keeps_the_pauses_between_attempts_that_fail(rt: HostRuntime) {
     assert_eq!(rt; attempted_at(&rt), Some(times));
 }
 
-// How many attempts came to the same: one to nobody, one to no answer, another one to nobody; and another one behind a
-// connection.
-fn counted<R: Wait>(rt: &R) -> [u64; 4] {
-    let attempts = Attempts::new();
-    let first = attempts.fail(rt, NOBODY);
-    let other = attempts.fail(rt, DialFault::NoAnswer);
-    let second = attempts.fail(rt, NOBODY);
-    attempts.succeed(rt);
-    [first, other, second, attempts.fail(rt, NOBODY)]
-}
-
-#[test]
-fn counts_attempts_by_reason_until_one_comes_to_a_connection(rt: HostRuntime) {
-    assert_eq!(rt; counted(&rt), [1, 1, 2, 1]);
-}
-
 // Whether no attempt is made once the run is to end.
 fn is_over<R: Host + Net<Stream = TcpStream, Listener = TcpListener>>(
     rt: &R,
@@ -186,28 +166,6 @@ fn has_new_bytes<R: Machine + Net<Stream = TcpStream, Listener = TcpListener>>(
 #[test]
 fn says_new_random_bytes_at_each_attempt(rt: HostRuntime) {
     assert_eq!(rt; has_new_bytes(&rt), Some(true));
-}
-
-// Whether the next one who connects closes the connection where nothing is said to its greeting.
-fn closes_by_itself(listener: &TcpListener) -> Option<bool> {
-    let (mut stream, _) = greeting_at(listener)?;
-    let limit = Some(Duration::from_millis(LONG_MS));
-    stream.set_read_timeout(limit).ok()?;
-    Some(matches!(stream.read(&mut [0]), Ok(0)))
-}
-
-// Whether an attempt ends by itself where whoever listens says nothing, and closes its connection.
-fn ends_in_silence<R: Machine + Net<Stream = TcpStream, Listener = TcpListener>>(
-    rt: &R,
-) -> Option<bool> {
-    meet(rt, closes_by_itself, |process, host| {
-        process.is_refused(rt, rt.alloc(), host, DialFault::NoAnswer, false)
-    })
-}
-
-#[test]
-fn ends_an_attempt_to_which_nothing_is_said(rt: HostRuntime) {
-    assert_eq!(rt; ends_in_silence(&rt), Some(true));
 }
 
 // How long an attempt takes whose run is to end after 200 ms, in ms, while whoever listens says nothing.

@@ -1,55 +1,10 @@
-//! What stands between a node and all that leaves it: nothing does where it is refused, that the run is finished is kept
-//! before anybody is told, and before it is proved that a federate has heard so.
-use crate::entrance::{
-    Entrance, Host, Machine, gets_no_more, host_of, listener_of, told_behind, visited,
-};
-use crate::process::{CountingBarrier, Process, told_by_now};
+//! What stands between a node and all that leaves it: where it refuses, the run is given up; that the run is finished
+//! is kept before anybody is told; and a federate that is let in keeps no end.
+use crate::entrance::{Entrance, Host, Machine, host_of, listener_of, visited};
+use crate::process::{Process, told_by_now};
 use crate::simulated::{Meanwhile, Nothing, let_in_for, watched_until};
-use std::alloc::Global;
 use std::net::{Net, TcpListener, TcpStream};
-use std::sync::Wait;
-use std::thread;
-use std::time::Duration;
-use wires_hosts::{DialFault, GivenUp, Happening, HeardTransport};
-use wires_transports::{Transport, pair};
-
-// Which of three sends succeed, the last one of which is refused.
-fn sends<R: Wait, T: Transport>(rt: &R, outgoing: &mut T, barrier: &CountingBarrier) -> [bool; 3] {
-    let first = outgoing.send(rt, &[1, 2]).is_ok();
-    let second = outgoing.send(rt, &[3]).is_ok();
-    barrier.refuse();
-    let third = outgoing.send(rt, &[4, 5, 6, 7]).is_ok();
-    outgoing.finish(rt);
-    [first, second, third]
-}
-
-// How many bytes come in all.
-fn received<R: Wait, T: Transport>(rt: &R, incoming: &mut T) -> Option<usize> {
-    let mut count = 0usize;
-    let mut room = [0; 8];
-    for _ in 0..4 {
-        count = count.saturating_add(incoming.recv(rt, &mut room).ok()?);
-    }
-    Some(count)
-}
-
-// Of these sends: which succeed, how many bytes come out at the other end in all, and how often the barrier was asked.
-fn sent<R: Host>(rt: &R, alloc: Global) -> Option<([bool; 3], usize, (u64, u64))> {
-    let process = Process::new(alloc)?;
-    let (one, mut other) = pair(alloc).ok()?;
-    let mut one = HeardTransport::around(one, &process.heard, &process.barrier);
-    let succeeded = sends(rt, &mut one.outgoing, &process.barrier);
-    let count = received(rt, &mut other.incoming)?;
-    Some((succeeded, count, process.barrier.counts()))
-}
-
-#[test]
-fn nothing_leaves_that_is_refused(rt: HostRuntime) {
-    assert_eq!(rt;
-        sent(&rt, rt.alloc()),
-        Some(([true, true, false], 3, (3, 0)))
-    );
-}
+use wires_hosts::{GivenUp, Happening};
 
 /// A run whose barrier refuses from some time on, and which ends by itself at another, both in ms.
 #[derive(Drop)]
@@ -119,43 +74,6 @@ fn told_for<R: Machine + Net<Stream = TcpStream, Listener = TcpListener>>(
 fn tells_that_the_run_is_finished_once_that_is_kept(rt: HostRuntime) {
     let told = [told_for(&rt, false), told_for(&rt, true)];
     assert_eq!(rt; told, [Some((20_000, (1, 0))), Some((0, (1, 0)))]);
-}
-
-// Whether federate 0 hears that the run is finished and ends by it, where that can be kept or not, and was to be once.
-fn hears<R: Host + Net<Stream = TcpStream, Listener = TcpListener>>(
-    rt: &R,
-    entrance: &Entrance<'_>,
-    refuses: bool,
-) -> Option<bool> {
-    let host = host_of(entrance.address, 0)?;
-    let process = Process::new(entrance.alloc)?;
-    if refuses {
-        process.barrier.refuse();
-    }
-    let has_ended = process.is_refused(rt, entrance.alloc, host, DialFault::Finished, true);
-    Some(has_ended && process.barrier.counts() == (0, 1))
-}
-
-// The run is finished. Whether a federate that keeps that it heard so proves it, and one that can't keep it doesn't: it
-// wasn't told, and hears so again.
-fn is_kept_first<R: Host + Net<Stream = TcpStream, Listener = TcpListener>>(
-    rt: &R,
-    entrance: &Entrance<'_>,
-) -> Option<bool> {
-    let no_more = gets_no_more(rt, entrance);
-    let hears_in_vain = hears(rt, entrance, true)?;
-    thread::sleep(rt, Duration::from_millis(200));
-    let is_untold = !entrance.coordinator.heard.is_told(0);
-    let hears_again = hears(rt, entrance, false)?;
-    Some(no_more && hears_in_vain && is_untold && hears_again)
-}
-
-#[test]
-fn keeps_that_the_run_is_finished_before_it_proves_that_it_heard_so(rt: HostRuntime) {
-    assert_eq!(rt;
-        told_behind(&rt, 2000, is_kept_first),
-        Some([true, false, false, false])
-    );
 }
 
 // Whether a federate that is let in tells nothing: there is no end to be kept.

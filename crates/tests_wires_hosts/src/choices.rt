@@ -1,43 +1,7 @@
-//! What is told when, by worked rows: of connections that stand for a moment, of two processes of a federate, and of who
-//! holds a run back. What is told of silences and how far a run is has its rows in `stillness`.
+//! How many connections from a machine in a row aren't let in, by worked rows.
 use std::net::IpAddr;
-use tag::{FiniteTag, Time};
 use wires_hosts::NotLetIn;
-use wires_hosts::attempts::{Refusals, Refused, may_be_two, quick_after};
-use wires_hosts::standing::{holds_back, least_of};
-
-#[test]
-fn connections_of_a_moment_are_a_row_and_two_processes_may_run(rt: HostRuntime) {
-    let rows = [quick_after(1999, 1), quick_after(2000, 7)];
-    assert_eq!(rt; rows, [2, 1]);
-    let may_be = [
-        may_be_two(true, 3),
-        may_be_two(true, 4),
-        may_be_two(false, 1),
-    ];
-    assert_eq!(rt; may_be, [false, true, true]);
-}
-
-// The tag of so many ns.
-fn tag(nanoseconds: u64) -> Option<FiniteTag> {
-    Some(FiniteTag::new(Time::new(nanoseconds)?, 0))
-}
-
-#[test]
-fn whoever_has_completed_least_or_nothing_holds_a_run_back(rt: HostRuntime) {
-    let least = [
-        least_of(None, tag(7)),
-        least_of(tag(7), tag(9)),
-        least_of(tag(9), tag(7)),
-    ];
-    assert_eq!(rt; least, [tag(7), tag(7), tag(7)]);
-    let hold = [
-        holds_back(tag(7), None),
-        holds_back(tag(7), tag(7)),
-        holds_back(tag(7), tag(9)),
-    ];
-    assert_eq!(rt; hold, [true, true, false]);
-}
+use wires_hosts::attempts::{Refusals, Refused};
 
 /// A connection that comes from a machine to a coordinator.
 #[derive(Clone, Copy)]

@@ -3,7 +3,6 @@ use crate::entrance::{
     Entrance, Host, LONG_MS, Machine, challenged, gets_no_more, host_of, is_closed, told_behind,
 };
 use crate::process::{Process, is_told};
-use std::io::Write;
 use std::net::{Net, TcpListener, TcpStream};
 use std::time::{Duration, Instant};
 use wires_hosts::{DialFault, Happening};
@@ -65,44 +64,6 @@ fn answered<R: Net<Stream = TcpStream, Listener = TcpListener>>(
     } else {
         None
     }
-}
-
-// Whether this federate isn't told where somebody without the secret greets as it and closes its side, or proves
-// something else.
-fn is_untold_by_strangers<R: Net<Stream = TcpStream, Listener = TcpListener>>(
-    rt: &R,
-    entrance: &Entrance<'_>,
-    federate: u16,
-) -> Option<bool> {
-    drop(answered(rt, entrance, federate)?);
-    for proof in &[[0; 32], [6; 32]] {
-        let mut stream = answered(rt, entrance, federate)?;
-        stream.write_all(proof).ok()?;
-        if !is_closed(&stream, 0) || entrance.coordinator.heard.is_told(usize::from(federate)) {
-            return Some(false);
-        }
-    }
-    Some(true)
-}
-
-// Whether that holds of each federate, and all federates' processes hear it still.
-fn are_told_in_spite_of_strangers<R: Host + Net<Stream = TcpStream, Listener = TcpListener>>(
-    rt: &R,
-    entrance: &Entrance<'_>,
-) -> Option<bool> {
-    let no_more = gets_no_more(rt, entrance);
-    for federate in 0..3 {
-        if !is_untold_by_strangers(rt, entrance, federate)? {
-            return Some(false);
-        }
-    }
-    Some(no_more && all_hear(rt, entrance)?)
-}
-
-#[test]
-fn tells_each_federate_though_a_stranger_greets_as_it(rt: HostRuntime) {
-    let told = told_behind(&rt, LONG_MS, are_told_in_spite_of_strangers);
-    assert_eq!(rt; told, Some([true; 4]));
 }
 
 // Federate 0 is answered and doesn't prove that it heard so, and federate 1 hears it. Whether the coordinator closes

@@ -2,10 +2,9 @@
 use crate::entrance::{Host, Machine};
 use std::alloc::Global;
 use std::sync::Wait;
-use std::thread;
 use std::time::Duration;
 use wires::Work;
-use wires_hosts::{Barrier, Heard, HeardTransport, NoBarrier, Patience};
+use wires_hosts::{Heard, HeardTransport, NoBarrier, Patience};
 use wires_transports::{Connection, Ending, Transport, pair};
 
 // How often something was heard by a process, as bytes come to it, then none, and then the end.
@@ -45,37 +44,6 @@ fn counts_each_time_that_bytes_come(rt: HostRuntime) {
     assert_eq!(rt; heard_of(&rt, rt.alloc()), Some([1, 2, 2]));
 }
 
-// Whether a run goes on while somebody speaks, longer than the patience, and is given up behind it.
-fn is_given_up_behind<R: Machine>(rt: &R) -> Option<bool> {
-    let heard = Heard::new(rt.alloc(), 0).ok()?;
-    let ending = Ending::new();
-    let barrier = NoBarrier;
-    let patience = Patience {
-        heard: &heard,
-        barrier: &barrier,
-        ending: &ending,
-        most: Some(Duration::from_millis(1000)),
-        last: None,
-    };
-    let (_, went_on) = thread::join(
-        rt,
-        || patience.work(rt, rt.alloc()),
-        || {
-            for _ in 0..100 {
-                heard.hear();
-                thread::sleep(rt, Duration::from_millis(20));
-            }
-            !ending.is_set() && !heard.has_given_up()
-        },
-    );
-    Some(went_on && ending.is_set() && heard.has_given_up())
-}
-
-#[test]
-fn gives_up_where_nobody_speaks_and_not_before(rt: HostRuntime) {
-    assert_eq!(rt; is_given_up_behind(&rt), Some(true));
-}
-
 // Whether nothing is given up in a run that has ended, or whose patience has no end.
 fn is_kept<R: Machine>(rt: &R, most: Option<Duration>) -> Option<bool> {
     let heard = Heard::new(rt.alloc(), 0).ok()?;
@@ -98,9 +66,4 @@ fn gives_up_no_run_that_has_ended(rt: HostRuntime) {
     for most in [None, Some(0), Some(100)] {
         assert_eq!(rt; is_kept(&rt, most.map(Duration::from_millis)), Some(true));
     }
-}
-
-#[test]
-fn lets_all_by_where_nothing_is_kept(rt: HostRuntime) {
-    assert_eq!(rt; [NoBarrier.reach(&rt), NoBarrier.tell(&rt)], [Ok(()); 2]);
 }

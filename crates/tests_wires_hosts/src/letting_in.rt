@@ -1,9 +1,7 @@
 //! Who is let in.
 use crate::entrance::{
-    Entrance, Host, Known, LONG_MS, Own, are_joined, gets_no_more, is_closed, is_empty, is_ended,
-    is_let_in, visited, when_let_in,
+    Entrance, Host, Known, LONG_MS, Own, gets_no_more, is_ended, is_let_in, visited, when_let_in,
 };
-use crate::process::Process;
 use std::io::{ErrorKind, Read};
 use std::net::{Net, TcpListener, TcpStream};
 use std::thread;
@@ -30,38 +28,6 @@ fn lets_in_a_federate_with_the_secret(rt: HostRuntime) {
     assert_eq!(rt; visited(&rt, &rt, are_let_in), Some(true));
 }
 
-// Whether a second process of one federate is let in in place of the first, whose connection is ended at both ends.
-fn is_replaced<R: Host + Net<Stream = TcpStream, Listener = TcpListener>>(
-    rt: &R,
-    entrance: &Entrance<'_>,
-) -> Option<bool> {
-    when_let_in(rt, entrance, entrance.process, 0, |own, other| {
-        is_ended_by_another(rt, entrance, own, other)
-    })
-}
-
-// Whether this connection of federate 0 is ended once another one is let in.
-fn is_ended_by_another<R: Host + Net<Stream = TcpStream, Listener = TcpListener>>(
-    rt: &R,
-    entrance: &Entrance<'_>,
-    older: &mut Own<'_>,
-    older_let_in: &mut Own<'_>,
-) -> Option<bool> {
-    let process = Process::new(entrance.alloc)?;
-    when_let_in(rt, entrance, &process, 0, |newer, newer_let_in| {
-        Some(
-            is_ended(rt, &mut older_let_in.incoming)
-                && is_ended(rt, &mut older.incoming)
-                && are_joined(rt, &mut newer.outgoing, &mut newer_let_in.incoming),
-        )
-    })
-}
-
-#[test]
-fn ends_the_older_connection_of_a_federate(rt: HostRuntime) {
-    assert_eq!(rt; visited(&rt, &rt, is_replaced), Some(true));
-}
-
 // This many connections on which nothing is said. They don't wait.
 fn silent<R: Host + Net<Stream = TcpStream, Listener = TcpListener>>(
     rt: &R,
@@ -75,25 +41,6 @@ fn silent<R: Host + Net<Stream = TcpStream, Listener = TcpListener>>(
         silent.push(stream).ok()?;
     }
     Some(silent)
-}
-
-// Whether more silent connections than are listened to at a time keep nobody out, and are closed. The coordinator draws
-// the oldest.
-fn is_let_in_among_silent<R: Host + Net<Stream = TcpStream, Listener = TcpListener>>(
-    rt: &R,
-    entrance: &Entrance<'_>,
-) -> Option<bool> {
-    let silent = silent(rt, entrance, PENDING_MOST + 40)?;
-    let is_own = is_let_in(rt, entrance, 0)?;
-    let last = silent.last()?;
-    last.set_nonblocking(false).ok()?;
-    Some(is_own && is_closed(last, 0) && is_empty(rt, entrance))
-}
-
-#[test]
-fn lets_in_a_federate_among_silent_connections(rt: HostRuntime) {
-    let oldest = Known { byte: 0 };
-    assert_eq!(rt; visited(&rt, &oldest, is_let_in_among_silent), Some(true));
 }
 
 // Whether a connection that doesn't wait isn't closed by the other end, on which nothing is said.
@@ -115,17 +62,6 @@ fn open_count(streams: &mut [TcpStream]) -> usize {
     open
 }
 
-// How many connections are open still, and which one is closed of one more than are listened to at a time.
-fn given_up<R: Host + Net<Stream = TcpStream, Listener = TcpListener>>(
-    rt: &R,
-    entrance: &Entrance<'_>,
-) -> Option<(usize, usize)> {
-    let mut silent = silent(rt, entrance, PENDING_MOST + 1)?;
-    let open = open_once_one_is_closed(rt, &mut silent);
-    let closed = silent.iter_mut().position(|stream| !is_open(stream))?;
-    Some((open, closed))
-}
-
 // How many of these connections are open once one of them is closed, or it takes too long.
 fn open_once_one_is_closed<R: Host>(rt: &R, streams: &mut [TcpStream]) -> usize {
     let deadline = Deadline::after(rt, LONG_MS);
@@ -140,6 +76,19 @@ fn open_once_one_is_closed<R: Host>(rt: &R, streams: &mut [TcpStream]) -> usize 
     open
 }
 
+// Whether the connection at this place is given up, and silent ones keep nobody out but whoever is drawn himself.
+fn is_drawn<R: Host + Net<Stream = TcpStream, Listener = TcpListener>>(
+    rt: &R,
+    entrance: &Entrance<'_>,
+    place: usize,
+) -> Option<bool> {
+    let mut silent = silent(rt, entrance, PENDING_MOST + 1)?;
+    let open = open_once_one_is_closed(rt, &mut silent);
+    let closed = silent.iter_mut().position(|stream| !is_open(stream))?;
+    let are_let_in = place == PENDING_MOST || is_let_in(rt, entrance, 0)?;
+    Some((open, closed) == (PENDING_MOST, place) && are_let_in)
+}
+
 // The coordinator's random bytes draw which one is given up. A number of eight bytes that are all the same is divided by
 // 129: of 0 there is 0 left, of 0x0101010101010101 44, and of 0x5555555555555555 128.
 #[test]
@@ -147,7 +96,7 @@ fn gives_up_the_connection_that_is_drawn(rt: HostRuntime) {
     for (byte, place) in &[(0, 0), (1, 44), (0x55, 128)] {
         let known = Known { byte: *byte };
         let drawn = visited(&rt, &known, |rt, entrance| {
-            Some(given_up(rt, entrance)? == (PENDING_MOST, *place))
+            is_drawn(rt, entrance, *place)
         });
         assert_eq!(rt; drawn, Some(true));
     }

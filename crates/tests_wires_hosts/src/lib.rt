@@ -33,10 +33,6 @@ mod sources;
 #[cfg(test)]
 mod stillness;
 #[cfg(test)]
-mod strangers;
-#[cfg(test)]
 mod told;
-#[cfg(test)]
-mod waiting;
 #[cfg(test)]
 mod watching;

@@ -1,48 +1,11 @@
 //! What a federate's process makes of a refusal, and what it doesn't believe.
-use crate::entrance::{
-    Entrance, FILES, Host, Machine, SECRET, answer_to, greeting_at, host_of, is_empty, key_of,
-    visited,
-};
-use crate::process::{Meeting, Process, meet, met};
+use crate::entrance::{FILES, Host, Machine, SECRET, answer_to, greeting_at};
+use crate::process::{Meeting, meet, met};
 use crate::simulated::{Meanwhile, attempted_until, counted};
 use std::io::Write;
 use std::net::{Net, TcpListener, TcpStream};
 use wires_greeting::Greeting;
-use wires_hosts::{DialFault, FederateHost};
-
-// Whether nobody is let in with another secret or other files, or as a federate that isn't there, and the run ends only
-// by a refusal that is proved.
-fn is_refused<R: Host + Net<Stream = TcpStream, Listener = TcpListener>>(
-    rt: &R,
-    entrance: &Entrance<'_>,
-) -> Option<bool> {
-    let alloc = entrance.alloc;
-    let right = host_of(entrance.address, 0)?;
-    let other_secret = FederateHost {
-        key: key_of(b"0123456789abcdeF")?,
-        ..right
-    };
-    let other_files = FederateHost {
-        files: [8; 32],
-        ..right
-    };
-    let not_there = host_of(entrance.address, 3)?;
-    for (host, fault, ends) in [
-        (other_secret, DialFault::NotProved, false),
-        (other_files, DialFault::OtherFiles, true),
-        (not_there, DialFault::NoSuchFederate, true),
-    ] {
-        if !Process::new(alloc)?.is_refused(rt, alloc, host, fault, ends) {
-            return Some(false);
-        }
-    }
-    Some(is_empty(rt, entrance))
-}
-
-#[test]
-fn lets_in_nobody_with_another_secret_other_files_or_another_number(rt: HostRuntime) {
-    assert_eq!(rt; visited(&rt, &rt, is_refused), Some(true));
-}
+use wires_hosts::DialFault;
 
 /// What whoever listens at the coordinator's address says to a greeting, before it ends the connection.
 #[derive(Clone, Copy)]
@@ -121,12 +84,9 @@ const SAID: &[(Says, DialFault, bool)] = &[
 fn first_wrong<R: Machine + Net<Stream = TcpStream, Listener = TcpListener>>(
     rt: &R,
 ) -> Option<usize> {
-    for (place, (says, fault, ends)) in SAID.iter().enumerate() {
-        if is_refused_by(rt, *says, *fault, *ends) != Some(true) {
-            return Some(place);
-        }
-    }
-    None
+    SAID.iter().position(|(says, fault, ends)| {
+        is_refused_by(rt, *says, *fault, *ends) != Some(true)
+    })
 }
 
 #[test]

@@ -82,21 +82,13 @@ fn reached(seconds: u64, unacked: usize) -> Reached {
 struct Reads<'a> {
     seconds: &'a AtomicU64,
     unacked: usize,
-    /// Whether that one completes its first tag, the one of the first second, as others complete that of the 20th.
-    is_late: bool,
     is_federate: bool,
 }
 
 impl<'a> Look for Reads<'a> {
     fn look<R: Wait>(&self, _rt: &R, federate: usize) -> Reached {
         let seconds = self.seconds.load(Ordering::SeqCst);
-        if federate != 1 {
-            reached(seconds, 0)
-        } else if self.is_late {
-            reached(if seconds < 20 { 0 } else { 1 }, self.unacked)
-        } else {
-            reached(seconds, self.unacked)
-        }
+        reached(seconds, if federate == 1 { self.unacked } else { 0 })
     }
 
     fn stop(&self) -> Option<Time> {
@@ -115,13 +107,25 @@ struct Run<'a> {
     are_connected: bool,
     is_federate: bool,
     unacked: usize,
-    is_late: bool,
     patience_ms: Option<u64>,
     hearings: &'a [(u16, u64, u64)],
     completions: &'a [(u64, u64)],
     end_ms: u64,
     stop_ms: (u64, u64),
 }
+
+/// A coordinator of two federates that are connected, in a run without an end in which nothing happens.
+const COORDINATOR: Run<'static> = Run {
+    federates: 2,
+    are_connected: true,
+    is_federate: false,
+    unacked: 0,
+    patience_ms: None,
+    hearings: &[],
+    completions: &[],
+    end_ms: 0,
+    stop_ms: (0, 0),
+};
 
 // Has whoever watches this process told of such a run.
 fn run_through<R: Machine>(rt: &R, process: &Process, run: &Run<'_>) -> Option<()> {
@@ -147,7 +151,6 @@ fn run_through<R: Machine>(rt: &R, process: &Process, run: &Run<'_>) -> Option<(
         look: Reads {
             seconds: &seconds,
             unacked: run.unacked,
-            is_late: run.is_late,
             is_federate: run.is_federate,
         },
     };
@@ -196,16 +199,10 @@ fn stands(federate: u16, is_connected: bool, lasting_ms: u64, quiet_ms: Option<u
 // 7 s.
 fn is_silence_told<R: Machine>(rt: &R) -> Option<bool> {
     let run = Run {
-        federates: 2,
         are_connected: false,
-        is_federate: false,
-        unacked: 0,
-        is_late: false,
         patience_ms: Some(12_000),
         hearings: &[(0, 7000, 7000)],
-        completions: &[],
-        end_ms: 0,
-        stop_ms: (0, 0),
+        ..COORDINATOR
     };
     are_told(
         rt,
@@ -255,16 +252,11 @@ fn missing(lasting_ms: u64, seconds: u64, quiet_ms: u64) -> Happening {
 // second to its twelfth, while the other one goes on.
 fn is_missing_told<R: Machine>(rt: &R) -> Option<bool> {
     let run = Run {
-        federates: 2,
-        are_connected: true,
-        is_federate: false,
         unacked: 3,
-        is_late: false,
-        patience_ms: None,
         hearings: &[(0, 1000, 13_000), (1, 1000, 1000), (1, 12_000, 13_000)],
         completions: &[(1000, 13_000)],
         end_ms: 13_000,
-        stop_ms: (0, 0),
+        ..COORDINATOR
     };
     are_told(
         rt,
@@ -319,14 +311,9 @@ fn counts_of_many<R: Machine>(rt: &R) -> Option<[usize; 4]> {
     let run = Run {
         federates: 20,
         are_connected: false,
-        is_federate: false,
-        unacked: 0,
-        is_late: false,
-        patience_ms: None,
         hearings: &hearings,
-        completions: &[],
         end_ms: 8000,
-        stop_ms: (0, 0),
+        ..COORDINATOR
     };
     let process = Process::of(rt.alloc(), run.federates)?;
     run_through(rt, &process, &run)?;
@@ -343,15 +330,10 @@ fn tells_of_16_who_are_missing_and_who_of_them_is_heard_again(rt: HostRuntime) {
 fn is_how_far_told<R: Machine>(rt: &R) -> Option<bool> {
     let run = Run {
         federates: 3,
-        are_connected: true,
-        is_federate: false,
-        unacked: 0,
-        is_late: false,
-        patience_ms: None,
         hearings: &[(0, 0, 130_000), (1, 0, 130_000), (2, 0, 130_000)],
         completions: &[(1000, 19_000), (70_000, 130_000)],
         end_ms: 130_000,
-        stop_ms: (0, 0),
+        ..COORDINATOR
     };
     are_told(
         rt,
@@ -370,49 +352,16 @@ fn tells_how_far_a_run_is_and_whether_it_goes_on(rt: HostRuntime) {
     assert_eq!(rt; is_how_far_told(&rt), Some(true));
 }
 
-// A coordinator of two federates that are connected, of which one completes its first tag after 20 s, an early one.
-fn is_earlier_told<R: Machine>(rt: &R) -> Option<bool> {
-    let run = Run {
-        federates: 2,
-        are_connected: true,
-        is_federate: false,
-        unacked: 0,
-        is_late: true,
-        patience_ms: None,
-        hearings: &[(0, 1000, 31_000)],
-        completions: &[(1000, 31_000)],
-        end_ms: 31_000,
-        stop_ms: (0, 0),
-    };
-    are_told(
-        rt,
-        &run,
-        &[
-            Happening::Runs(how_far(9, true)?, awaiting(2, 2)),
-            Happening::Runs(how_far(1, true)?, awaiting(2, 2)),
-        ],
-    )
-}
-
-#[test]
-fn tells_the_least_tag_of_those_that_have_completed_one(rt: HostRuntime) {
-    assert_eq!(rt; is_earlier_told(&rt), Some(true));
-}
-
 // A coordinator of two federates that are connected, of which one acknowledges nothing: both are heard and complete a tag
 // each second, but for a minute, in which its process is stopped.
 fn is_stop_left_out<R: Machine>(rt: &R) -> Option<bool> {
     let run = Run {
-        federates: 2,
-        are_connected: true,
-        is_federate: false,
         unacked: 3,
-        is_late: false,
-        patience_ms: None,
         hearings: &[(0, 1000, 70_000), (1, 1000, 70_000)],
         completions: &[(1000, 70_000)],
         end_ms: 69_000,
         stop_ms: (3500, 60_000),
+        ..COORDINATOR
     };
     are_told(
         rt,
@@ -431,15 +380,11 @@ fn tells_of_no_silence_while_its_own_process_was_stopped(rt: HostRuntime) {
 fn is_coordinator_told<R: Machine>(rt: &R) -> Option<bool> {
     let run = Run {
         federates: 1,
-        are_connected: true,
         is_federate: true,
-        unacked: 0,
-        is_late: false,
-        patience_ms: None,
         hearings: &[(0, 1000, 1000), (0, 8000, 15_000)],
         completions: &[(14_000, 14_000)],
         end_ms: 15_000,
-        stop_ms: (0, 0),
+        ..COORDINATOR
     };
     are_told(
         rt,
@@ -489,7 +434,6 @@ fn looked<R: Machine>(
         look: Reads {
             seconds: &seconds,
             unacked: 0,
-            is_late: false,
             is_federate: false,
         },
     };

@@ -1,16 +1,14 @@
 //! What whoever watches a node is told, in which order, and that nobody waits for him.
 use crate::entrance::{
-    Entrance, FILES, HELLO, Host, LONG_MS, Machine, challenged, host_of, is_ended, next, said,
-    told_behind, visited,
+    ACKNOWLEDGEMENT, Entrance, FILES, HELLO, Host, LONG_MS, OTHER_HELLO, challenged, host_of,
+    is_closed, is_empty, is_ended, next, said, told_behind, visited,
 };
 use crate::finishing::all_hear;
-use crate::process::{Process, is_told, next_told};
+use crate::process::{is_told, next_told};
 use crossbeam_channel::{Receiver, TryRecvError};
 use std::alloc::Global;
 use std::io::Write;
 use std::net::{Net, SocketAddr, TcpListener, TcpStream};
-use std::time::Duration;
-use wires::Work;
 use wires_greeting::Greeting;
 use wires_hosts::teller::MOST_WAITING;
 use wires_hosts::{
@@ -92,121 +90,117 @@ fn tells_who_comes_and_whose_connection_has_ended(rt: HostRuntime) {
     assert_eq!(rt; visited(&rt, &rt, are_comings_told), Some(true));
 }
 
-/// Whoever isn't let in, and ends the connection behind what is said.
+/// Whoever isn't let in: he is closed once he has said as much as is waited for, and else ends the connection himself.
 #[derive(Clone, Copy)]
 enum Stranger {
     Silent,
-    Noise,
+    /// As many bytes as a greeting has, all of them this one.
+    Noise(u8),
     /// With files whose digest is all this byte, as this federate.
     Greets(u8, u16),
     /// Says this behind the challenge.
     Unproved(&'static [u8]),
-    /// Proves the secret, and says this.
-    Unheard(&'static [u8]),
+    /// Proves the secret as this federate, and says this.
+    Unheard(u16, &'static [u8]),
 }
 
-/// Why each isn't let in, and how many in a row weren't for that.
-const STRANGERS: &[(Stranger, NotLetIn, u64)] = &[
-    (Stranger::Silent, NotLetIn::NoGreeting, 1),
-    (Stranger::Noise, NotLetIn::OtherProtocol, 1),
-    (Stranger::Greets(8, 0), NotLetIn::OtherFiles, 1),
-    (Stranger::Greets(FILES[0], 3), NotLetIn::NoSuchFederate, 1),
-    (Stranger::Unproved(&[]), NotLetIn::NoProof, 1),
-    (Stranger::Unproved(&[0; 31]), NotLetIn::NoProof, 2),
-    (Stranger::Unproved(&[0; 32]), NotLetIn::NotProved, 1),
-    (Stranger::Unheard(&[]), NotLetIn::NoHello, 1),
-    (Stranger::Unheard(&[0; 20]), NotLetIn::NoHello, 2),
+/// Why each isn't let in, and how many in a row weren't for that, where that is told: of the first, the second, the
+/// fourth.
+const STRANGERS: &[(Stranger, NotLetIn, Option<u64>)] = &[
+    (Stranger::Silent, NotLetIn::NoGreeting, Some(1)),
+    (Stranger::Noise(0), NotLetIn::OtherProtocol, Some(1)),
+    (Stranger::Greets(8, 0), NotLetIn::OtherFiles, Some(1)),
+    (
+        Stranger::Greets(FILES[0], 3),
+        NotLetIn::NoSuchFederate,
+        Some(1),
+    ),
+    (Stranger::Unproved(&[]), NotLetIn::NoProof, Some(1)),
+    (Stranger::Unproved(&[0; 31]), NotLetIn::NoProof, Some(2)),
+    (Stranger::Unproved(&[0; 32]), NotLetIn::NotProved, Some(1)),
+    (Stranger::Unheard(0, &[]), NotLetIn::NoHello, Some(1)),
+    (Stranger::Unheard(0, &[0; 20]), NotLetIn::NoHello, Some(2)),
+    (Stranger::Unheard(0, &OTHER_HELLO), NotLetIn::NoHello, None),
+    (Stranger::Unheard(2, &HELLO), NotLetIn::NoHello, Some(4)),
+    (
+        Stranger::Unheard(2, &ACKNOWLEDGEMENT),
+        NotLetIn::NoHello,
+        None,
+    ),
     // Rows that others came between go on.
-    (Stranger::Silent, NotLetIn::NoGreeting, 2),
-    (Stranger::Noise, NotLetIn::OtherProtocol, 2),
+    (Stranger::Silent, NotLetIn::NoGreeting, Some(2)),
+    (Stranger::Noise(0x66), NotLetIn::OtherProtocol, Some(2)),
+    (Stranger::Silent, NotLetIn::NoGreeting, None),
+    (Stranger::Silent, NotLetIn::NoGreeting, Some(4)),
 ];
 
-// What it says; the address of its connection, which has ended then.
+// What it says; the address of its connection, which has ended then. None where it isn't closed that is to be.
 fn heard_of<R: Net<Stream = TcpStream, Listener = TcpListener>>(
     rt: &R,
     address: SocketAddr,
     stranger: Stranger,
 ) -> Option<SocketAddr> {
     match stranger {
-        Stranger::Silent => said_on(TcpStream::connect(rt, address).ok()?, &[]),
-        Stranger::Noise => said_on(TcpStream::connect(rt, address).ok()?, &[0; 74]),
+        Stranger::Silent => said_on(TcpStream::connect(rt, address).ok()?, &[], false),
+        Stranger::Noise(byte) => said_on(TcpStream::connect(rt, address).ok()?, &[byte; 74], true),
         Stranger::Greets(file, federate) => {
             let greeting = Greeting {
                 federate,
                 files: [file; 32],
                 random: [8; 32],
             };
-            said_on(TcpStream::connect(rt, address).ok()?, &greeting.bytes())
+            let stream = TcpStream::connect(rt, address).ok()?;
+            said_on(stream, &greeting.bytes(), true)
         }
         Stranger::Unproved(bytes) => {
             let (stream, _) = challenged(rt, address, 0)?;
-            said_on(stream, bytes)
+            said_on(stream, bytes, bytes.len() == 32)
         }
-        Stranger::Unheard(bytes) => {
-            let (stream, _) = said(rt, address, 0, bytes)?;
-            stream.local_addr().ok()
+        Stranger::Unheard(federate, bytes) => {
+            let (stream, _) = said(rt, address, federate, &[])?;
+            said_on(stream, bytes, bytes.len() == HELLO.len())
         }
     }
 }
 
-// The address of a connection on which this was said.
-fn said_on(stream: TcpStream, bytes: &[u8]) -> Option<SocketAddr> {
+// The address of a connection on which this was said, and which the other end closes then, if so, behind its challenge
+// at most.
+fn said_on(stream: TcpStream, bytes: &[u8], is_to_be_closed: bool) -> Option<SocketAddr> {
     let mut stream = stream;
     stream.write_all(bytes).ok()?;
-    stream.local_addr().ok()
+    let address = stream.local_addr().ok()?;
+    if is_to_be_closed && !is_closed(&stream, 65) {
+        return None;
+    }
+    Some(address)
 }
 
-// Whether it is told of each of the strangers why it isn't let in, and from where it came.
+// Whether it is told of each of the strangers why it isn't let in, and from where it came, as seldom as it should; then
+// a federate is let in, none before, and the rows of its machine are over.
 fn are_strangers_told<R: Host + Net<Stream = TcpStream, Listener = TcpListener>>(
     rt: &R,
     entrance: &Entrance<'_>,
 ) -> Option<bool> {
+    let told = &entrance.coordinator.told;
     for (stranger, why, count) in STRANGERS {
         let from = heard_of(rt, entrance.address, *stranger)?;
-        if !is_told(
-            rt,
-            &entrance.coordinator.told,
-            Happening::Closed(from, *why, *count),
-        ) {
-            return Some(false);
-        }
-    }
-    Some(true)
-}
-
-#[test]
-fn tells_who_isnt_let_in_and_why(rt: HostRuntime) {
-    assert_eq!(rt; visited(&rt, &rt, are_strangers_told), Some(true));
-}
-
-// Whether of five who say nothing it is told of the first, the second and the fourth; then the federate comes, and of
-// one more it is told again.
-fn are_few_told<R: Host + Net<Stream = TcpStream, Listener = TcpListener>>(
-    rt: &R,
-    entrance: &Entrance<'_>,
-) -> Option<bool> {
-    let told = &entrance.coordinator.told;
-    for count in [Some(1), Some(2), None, Some(4), None] {
-        let from = heard_of(rt, entrance.address, Stranger::Silent)?;
         if let Some(count) = count {
-            if !is_told(
-                rt,
-                told,
-                Happening::Closed(from, NotLetIn::NoGreeting, count),
-            ) {
+            if !is_told(rt, told, Happening::Closed(from, *why, *count)) {
                 return Some(false);
             }
         }
     }
+    let is_none_let_in = is_empty(rt, entrance);
     let (_stream, address) = let_in_by_hand(rt, entrance)?;
     let is_let_in = is_told(rt, told, Happening::LetIn(0, address));
     let from = heard_of(rt, entrance.address, Stranger::Silent)?;
-    Some(is_let_in && is_told(rt, told, Happening::Closed(from, NotLetIn::NoGreeting, 1)))
+    let is_over = is_told(rt, told, Happening::Closed(from, NotLetIn::NoGreeting, 1));
+    Some(is_none_let_in && is_let_in && is_over)
 }
 
 #[test]
-fn tells_ever_fewer_of_those_who_arent_let_in(rt: HostRuntime) {
-    assert_eq!(rt; visited(&rt, &rt, are_few_told), Some(true));
+fn closes_who_isnt_let_in_and_tells_why_ever_fewer_times(rt: HostRuntime) {
+    assert_eq!(rt; visited(&rt, &rt, are_strangers_told), Some(true));
 }
 
 // Whether it is told next that a connection to there has ended that wasn't read to its end, the first or the second
@@ -314,19 +308,4 @@ fn are_over<R: Host>(rt: &R, alloc: Global) -> Option<[bool; 3]> {
 #[test]
 fn nothing_more_is_told_once_the_node_has_ended(rt: HostRuntime) {
     assert_eq!(rt; are_over(&rt, rt.alloc()), Some([true; 3]));
-}
-
-// Whether it is told of a run in which nobody is heard for its patience that it is given up.
-fn is_giving_up_told<R: Machine>(rt: &R) -> Option<bool> {
-    let alloc = rt.alloc();
-    let process = Process::new(alloc)?;
-    let _ = process
-        .patience(Some(Duration::from_millis(100)))
-        .work(rt, alloc);
-    Some(is_told(rt, &process.told, Happening::GaveUp(GivenUp::Silence)))
-}
-
-#[test]
-fn tells_that_a_run_is_given_up(rt: HostRuntime) {
-    assert_eq!(rt; is_giving_up_told(&rt), Some(true));
 }

@@ -59,6 +59,7 @@ impl<'a> Meanwhile for &Course<'a> {
 }
 
 /// How a process's last connection is watched.
+#[derive(Clone, Copy)]
 struct Case {
     /// How long nothing has to be heard until the run is given up, in ms.
     patience: Option<u64>,
@@ -116,72 +117,56 @@ fn is_ended_then<R: Machine>(
 // The place of the first of these that is ended at another time.
 fn first_wrong<R: Machine + Net<Stream = TcpStream, Listener = TcpListener>>(
     rt: &R,
-    cases: &[Case],
 ) -> Option<usize> {
-    for (place, case) in cases.iter().enumerate() {
-        if is_last_ended(rt, case) != Some(true) {
-            return Some(place);
-        }
-    }
-    None
+    CASES
+        .iter()
+        .position(|case| is_last_ended(rt, case) != Some(true))
 }
 
-const HELD: &[Case] = &[
-    Case {
-        patience: None,
-        end_ms: 5000,
-        is_held: true,
-        ended_ms: 6000,
-        is_second: false,
-    },
+/// A worker has the first connection still, and nobody has to be heard.
+const HELD: Case = Case {
+    patience: None,
+    end_ms: 5000,
+    is_held: true,
+    ended_ms: 6000,
+    is_second: false,
+};
+
+const CASES: &[Case] = &[
+    HELD,
     Case {
         patience: Some(60_000),
-        end_ms: 5000,
-        is_held: true,
-        ended_ms: 6000,
-        is_second: false,
+        ..HELD
     },
     Case {
         patience: Some(3000),
         end_ms: 60_000,
-        is_held: true,
         ended_ms: 4000,
-        is_second: false,
+        ..HELD
     },
     Case {
-        patience: None,
         end_ms: 1000,
-        is_held: true,
         ended_ms: 2000,
         is_second: true,
+        ..HELD
     },
-];
-
-#[test]
-fn ends_the_connection_that_was_made_last_1_s_behind_the_run(rt: HostRuntime) {
-    assert_eq!(rt; first_wrong(&rt, HELD), None);
-}
-
-const NOT_HELD: &[Case] = &[
     Case {
-        patience: None,
-        end_ms: 5000,
         is_held: false,
         ended_ms: 5000,
-        is_second: false,
+        ..HELD
     },
     Case {
         patience: Some(3000),
         end_ms: 60_000,
         is_held: false,
         ended_ms: 3000,
-        is_second: false,
+        ..HELD
     },
 ];
 
 #[test]
-fn ends_the_last_connection_with_the_run_where_no_worker_has_it(rt: HostRuntime) {
-    assert_eq!(rt; first_wrong(&rt, NOT_HELD), None);
+fn ends_the_last_connection_with_the_run_or_1_s_behind_it_where_a_worker_has_it(rt: HostRuntime) {
+    assert_eq!(rt; first_wrong(&rt), None);
 }
 
 // How long a process is watched that never had a connection, and whose run is to end at this time, in ms.

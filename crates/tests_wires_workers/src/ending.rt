@@ -16,13 +16,7 @@ use tests_samples::{COUNTER, Machine, loaded};
 use wires_workers::{Context, NoGate, WriterQueue};
 
 /// What the workers of a coordinator are passed.
-pub(crate) type Workers<'a, 'f, 's> = Context<
-    'a,
-    Coordinator<'f>,
-    NoGate,
-    Counting<'s>,
-    Counted<'s>,
->;
+type Workers<'a, 'f, 's> = Context<'a, Coordinator<'f>, NoGate, Counting<'s>, Counted<'s>>;
 
 // The first thing that a federate says: nothing is left to it.
 fn nothing_is_left(federate: usize) -> Event {

@@ -1,4 +1,4 @@
-//! Tests of the workers of a node: what they are told and what they hand on, who of them writes, and who is notified.
+//! Tests of the workers of a node: what they hand on, who of them writes, and who is notified.
 //! No program uses this crate.
 //!
 //! Begin with `counting`, an end of a connection on which sends are counted, then `who_writes`, then `taking_in`. Where
@@ -26,8 +26,4 @@ mod steps;
 #[cfg(test)]
 mod taking_in;
 #[cfg(test)]
-mod versions;
-#[cfg(test)]
 mod who_writes;
-#[cfg(test)]
-mod workers;

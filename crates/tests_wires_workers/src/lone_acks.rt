@@ -85,13 +85,12 @@ fn sends<R: Wait>(
 }
 
 #[test]
-fn writes_each_ack_though_nothing_else_is_sent(rt: HostRuntime) {
-    let seen = Seen::new(false);
-    assert_eq!(rt; sends(&rt, rt.alloc(), &seen, 5, false), Some(5));
-}
-
-#[test]
-fn writes_an_ack_at_the_end(rt: HostRuntime) {
-    let seen = Seen::new(false);
-    assert_eq!(rt; sends(&rt, rt.alloc(), &seen, 1, true), Some(1));
+fn writes_each_ack_though_nothing_else_is_sent_and_the_last_at_the_end(rt: HostRuntime) {
+    for (count, ends_at_once) in [(5, false), (1, true)] {
+        let seen = Seen::new(false);
+        assert_eq!(rt;
+            sends(&rt, rt.alloc(), &seen, count, ends_at_once),
+            Some(count)
+        );
+    }
 }

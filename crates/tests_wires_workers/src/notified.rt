@@ -1,21 +1,11 @@
 //! Who is notified of what is left to be done. No time goes by in these tests: who isn't notified doesn't go on.
 use crate::clocks::Standing;
-use crate::counting::{Queue, Seen, queues, refusal, side};
-use crate::ending;
-use crate::nodes::{at, context, context_alone, coordinator, federate};
-use crate::taking_in::{TICKS, Workers, grant};
-use coordinator::Coordinator;
-use desk::{Share, Shared};
-use federate::Federate;
-use node::NodeId;
+use crate::counting::{Queue, Seen, refusal, side};
 use std::alloc::Global;
 use std::sync::Wait;
 use std::thread;
 use std::thread::Threads;
-use std::time::Clock;
-use tests_samples::{COUNTER, Machine, loaded};
-use wires_transports::Ending;
-use wires_workers::{NoGate, WakeUps, WriterQueue, runner, write};
+use wires_workers::{WriterQueue, write};
 
 // Puts a frame while the writer sends one. At its third look the writer has been notified of its connection, and waits
 // once more. The run is to end behind that frame, and nobody is notified of the end.
@@ -120,82 +110,4 @@ fn is_notified_of_a_connection_and_of_what_is_for_a_peer_that_is_behind(rt: Host
         let seen = Seen::new(false);
         assert_eq!(rt; sent_of(&rt, rt.alloc(), &seen, news), Some((1, false)));
     }
-}
-
-/// So many writers that the first one is awake long before the last one is notified.
-const WRITERS: usize = 4_096;
-
-// Ends the run once a writer waits.
-fn end_meanwhile<R: Wait + Clock>(
-    rt: &R,
-    context: &ending::Workers<'_, '_, '_>,
-    machine: &Standing<'_, R>,
-) {
-    machine.wait_for_looks(1);
-    context.end(rt);
-    machine.expect_no_wait();
-}
-
-// Whether the first writer of a coordinator, which is notified first, doesn't hear then that the run is to end.
-fn sleeps_on<R: Machine>(rt: &R, alloc: Global, shared: &Shared<Coordinator<'_>>) -> Option<bool> {
-    let ending = Ending::new();
-    let writers = queues(alloc, WRITERS)?;
-    let first = writers.first()?;
-    let context = context_alone(NodeId::Coordinator, shared, &writers, &ending);
-    let machine = Standing::new(rt);
-    thread::join(
-        rt,
-        || write(&machine, alloc, first, &ending, 2),
-        || end_meanwhile(rt, &context, &machine),
-    );
-    Some(machine.is_late())
-}
-
-fn sleeps_on_in_counter<R: Machine>(rt: &R) -> Option<bool> {
-    let federation = loaded(rt.alloc(), COUNTER, "")?;
-    let shared = coordinator(rt.alloc(), &federation)?;
-    sleeps_on(rt, rt.alloc(), &shared)
-}
-
-// Whoever ends a run notes that first: a writer that is notified sees it.
-#[test]
-fn ends_the_run_before_it_notifies_its_writers(rt: HostRuntime) {
-    assert_eq!(rt; sleeps_on_in_counter(&rt), Some(false));
-}
-
-// How many slips the runner of a federate has after this many turns behind a grant, and whether it waited to be
-// notified.
-fn run_of<R: Wait + Clock>(
-    rt: &R,
-    alloc: Global,
-    shared: &Shared<Federate<'_>>,
-    turns: u32,
-) -> Option<(usize, bool)> {
-    let ending = Ending::new();
-    let wake_ups = WakeUps::new(alloc).ok()?;
-    let context: Workers<'_, '_, '_> = context(
-        NodeId::Federate(0),
-        shared,
-        &NoGate,
-        &[],
-        Some(&wake_ups),
-        &ending,
-    );
-    context.hand_in(rt, alloc, &mut Share::new(alloc), &[grant(at(1000))]);
-    let machine = Standing::new(rt);
-    machine.expect_no_wait();
-    let share = runner::run(&machine, alloc, &context, &wake_ups, turns);
-    Some((share.slips().len(), machine.is_late()))
-}
-
-fn run_of_src<R: Machine>(rt: &R) -> Option<(usize, bool)> {
-    let federation = loaded(rt.alloc(), TICKS, "")?;
-    let shared = federate(rt.alloc(), &federation)?;
-    run_of(rt, rt.alloc(), &shared, 300)
-}
-
-// It makes 256 turns at once, and nobody notifies it of those that are left.
-#[test]
-fn goes_on_behind_as_many_turns_as_are_made_at_once(rt: HostRuntime) {
-    assert_eq!(rt; run_of_src(&rt), Some((600, false)));
 }

@@ -1,4 +1,4 @@
 -- How it is printed that a run gives no desks.
 pub mod Fault
--- What the workers of nodes leave, and the desks that are gathered from it.
+-- The desks that are gathered after a run, from the shares that came back.
 pub mod Gathered

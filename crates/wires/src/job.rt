@@ -1,9 +1,6 @@
 //! What each thread of a node does, and what it leaves.
-ghost use Rattle.std.specs.Prelude.{◌≡◌, Some, false};
-ghost use Rattle.wires_traffic.specs.Sums.{no_counts};
-
+use crate::share_channel::ShareChannel;
 use crossbeam_channel::Receiver;
-use desk::Share;
 use node::Node;
 use std::alloc::Global;
 use std::sync::Wait;
@@ -14,22 +11,22 @@ use wires_workers::{
     Context, Dialed, Gate, Reading, WakeUps, WriterQueue, read, read_dialed, runner, write,
 };
 
-/// What one thread of a node does.
+/// What one thread of a node does. A worker that hands in events sends its share by the channel, at its end.
 #[derive(Drop)]
 pub enum Job<'a, N: Node, G: Gate, T: Drop, C: Drop, D: Drop, E: Drop, W: Drop> {
     /// Writes what the node sends to one peer, by this version of frames.
     Write(&'a WriterQueue<T, C>, &'a Ending, u8),
     /// Runs a federate for this many turns.
-    Run(Context<'a, N, G, T, C>, &'a WakeUps, u32),
+    Run(Context<'a, N, G, T, C>, &'a WakeUps, u32, &'a ShareChannel),
     /// What the caller wants done beside the run.
     Watch(W),
     /// Reads a federate's connections, for the coordinator.
-    Read(Context<'a, N, G, T, C>, usize, &'a Receiver<Accepted<T, C>>),
+    Read(Context<'a, N, G, T, C>, usize, &'a Receiver<Accepted<T, C>>, &'a ShareChannel),
     /// Makes a federate's connections, and reads them.
-    Connect(Context<'a, N, G, T, C>, D),
+    Connect(Context<'a, N, G, T, C>, D, &'a ShareChannel),
     /// The same in a process of its own: when the federate's end is closed, or the coordinator speaks of another
     /// history, nothing more can come, and the run is to end.
-    ConnectAlone(Context<'a, N, G, T, C>, D),
+    ConnectAlone(Context<'a, N, G, T, C>, D, &'a ShareChannel),
     /// Lets connections in.
     LetIn(E, &'a Ending),
 }
@@ -40,11 +37,9 @@ pub trait Work: Drop {
     fn work<R: Wait + Clock>(self, rt: &R, alloc: Global) -> WorkerResult;
 }
 
-/// What a worker leaves.
+/// What a worker says at its end, besides its share.
 #[derive(Drop)]
 pub struct WorkerResult {
-    /// Which events it handed in; None where it hands in none.
-    pub share: Option<Share>,
     /// Whether it ended since the node's peer speaks of another history.
     pub shows_other_history: bool,
     /// What it counted. Nothing rests on it.
@@ -52,21 +47,9 @@ pub struct WorkerResult {
 }
 
 impl WorkerResult {
-    /// Of a worker that hands in no events.
+    /// Of a worker that counts nothing.
     pub fn none() -> WorkerResult {
         WorkerResult {
-            share: None,
-            shows_other_history: false,
-            counts: Counts::none(),
-        }
-    }
-
-    /// Of a worker that handed in the events of this share.
-    pub fn of(share: Share) -> WorkerResult
-        ensures { result ≡ record { share = Some share; shows_other_history = false; counts = no_counts } }
-    {
-        WorkerResult {
-            share: Some(share),
             shows_other_history: false,
             counts: Counts::none(),
         }
@@ -75,29 +58,9 @@ impl WorkerResult {
     // Of a writer, by which this was sent.
     fn of_writer(sent: Traffic) -> WorkerResult {
         WorkerResult {
-            share: None,
             shows_other_history: false,
             counts: Counts::of_sender(sent),
         }
-    }
-
-    // Of a reader, which may have ended since the node's peer speaks of another history.
-    fn of_reader(reading: Reading, shows_other_history: bool) -> WorkerResult {
-        let counts = reading.counts();
-        WorkerResult {
-            share: Some(reading.share),
-            shows_other_history,
-            counts,
-        }
-    }
-
-    // Of a federate's reader.
-    fn of_dialed(dialed: Dialed) -> WorkerResult {
-        let Dialed {
-            reading,
-            shows_other_history,
-        } = dialed;
-        WorkerResult::of_reader(reading, shows_other_history)
     }
 }
 
@@ -127,24 +90,27 @@ impl<'a, N: Node, G: Gate, T: Transport, C: Cut, D: Dial<T, C> + Drop, E: Accept
             Job::Write(queue, ending, frames) => {
                 WorkerResult::of_writer(write(rt, alloc, queue, ending, frames))
             }
-            Job::Run(context, wake_ups, turns) => {
-                WorkerResult::of(runner::run(rt, alloc, &context, wake_ups, turns))
+            Job::Run(context, wake_ups, turns, shares) => {
+                shares.send(rt, runner::run(rt, alloc, &context, wake_ups, turns));
+                WorkerResult::none()
             }
             Job::Watch(watcher) => {
                 // It is no worker of the node: what it leaves isn't the node's.
                 let _ = watcher.work(rt, alloc);
                 WorkerResult::none()
             }
-            Job::Read(context, peer, arrivals) => {
-                WorkerResult::of_reader(read(rt, alloc, &context, peer, arrivals), false)
+            Job::Read(context, peer, arrivals, shares) => {
+                let reading = read(rt, alloc, &context, peer, arrivals);
+                end_reading(rt, shares, reading, false)
             }
-            Job::Connect(context, dial) => {
-                WorkerResult::of_dialed(read_dialed(rt, alloc, &context, &dial))
+            Job::Connect(context, dial, shares) => {
+                let dialed = read_dialed(rt, alloc, &context, &dial);
+                end_dialed(rt, shares, dialed)
             }
-            Job::ConnectAlone(context, dial) => {
+            Job::ConnectAlone(context, dial, shares) => {
                 let dialed = read_dialed(rt, alloc, &context, &dial);
                 context.end(rt);
-                WorkerResult::of_dialed(dialed)
+                end_dialed(rt, shares, dialed)
             }
             Job::LetIn(acceptor, ending) => {
                 acceptor.let_in(rt, alloc, ending);
@@ -152,4 +118,28 @@ impl<'a, N: Node, G: Gate, T: Transport, C: Cut, D: Dial<T, C> + Drop, E: Accept
             }
         }
     }
+}
+
+// Sends what a reader leaves as its share. It may have ended since the node's peer speaks of another history.
+fn end_reading<R: Wait>(
+    rt: &R,
+    shares: &ShareChannel,
+    reading: Reading,
+    shows_other_history: bool,
+) -> WorkerResult {
+    let counts = reading.counts();
+    shares.send(rt, reading.share);
+    WorkerResult {
+        shows_other_history,
+        counts,
+    }
+}
+
+// The same of a federate's reader.
+fn end_dialed<R: Wait>(rt: &R, shares: &ShareChannel, dialed: Dialed) -> WorkerResult {
+    let Dialed {
+        reading,
+        shows_other_history,
+    } = dialed;
+    end_reading(rt, shares, reading, shows_other_history)
 }

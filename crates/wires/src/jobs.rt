@@ -40,7 +40,7 @@ pub(crate) fn jobs_of_coordinator<
     }
     for (federate, arrivals) in arrivals.iter().enumerate() {
         let context = workers.context(gate, ending);
-        jobs.push(Job::Read(context, federate, arrivals))?;
+        jobs.push(Job::Read(context, federate, arrivals, &workers.shares))?;
     }
     jobs.push(Job::LetIn(acceptor, ending))?;
     Ok(jobs)
@@ -80,14 +80,15 @@ pub(crate) fn jobs_of_federate<
     }
     if let Some(wake_ups) = &workers.runner {
         let context = workers.context(gate, ending);
-        jobs.push(Job::Run(context, wake_ups, terms.turns))?;
+        jobs.push(Job::Run(context, wake_ups, terms.turns, &workers.shares))?;
     }
     let context = workers.context(gate, ending);
+    let shares = &workers.shares;
     match connector {
-        Connector::Together(dial) => jobs.push(Job::Connect(context, dial))?,
+        Connector::Together(dial) => jobs.push(Job::Connect(context, dial, shares))?,
         Connector::Alone(dial, watcher) => {
             jobs.push(Job::Watch(watcher))?;
-            jobs.push(Job::ConnectAlone(context, dial))?;
+            jobs.push(Job::ConnectAlone(context, dial, shares))?;
         }
     }
     Ok(jobs)

@@ -5,7 +5,7 @@
 //!         |                                 |
 //!         +---- jobs: a node's own list ----+---- threads: starts them in order, and waits for all
 //!                                                    |
-//!         gather: each node's desk, from what its own workers left
+//!         gather: each node's desk, from the shares of its own workers, which came back through a channel
 //!
 //! A node that runs by itself has its desk shared by the caller, who may look at it while it runs, and gathers it.
 //!
@@ -28,6 +28,7 @@ pub mod one_node;
 pub mod run_fault;
 pub mod running;
 pub mod runtime;
+pub mod share_channel;
 pub mod terms;
 pub mod threads;
 
@@ -37,10 +38,11 @@ pub use lines::{CoordinatorLines, Endpoint, FederateLines, FederationLines};
 pub use nobody::{NoAcceptor, NoDial};
 pub use node_workers::{NodeWorkers, channels};
 pub use nodes::{Gathered, Nodes};
-pub use one_node::{FederateRun, run_coordinator, run_federate};
+pub use one_node::{FederateRun, NodeResults, run_coordinator, run_federate};
 pub use run_fault::{Cause, RunFault};
 pub use running::{run, run_over_tcp};
 pub use runtime::{NetRuntime, Runtime};
+pub use share_channel::ShareChannel;
 pub use terms::Terms;
 pub use threads::{RunResults, start};
 pub use wires_transports::Transport;

@@ -1,6 +1,7 @@
 ghost use Rattle.std.specs.Prelude.{◌≡◌, ◌↔◌, IsSome, IsTrue, IfOk, IfErr, length};
 
 use crate::run_fault::RunFault;
+use crate::share_channel::ShareChannel;
 use crossbeam_channel::{Receiver, Sender, unbounded};
 use desk::Shared;
 use node::{Node, NodeId};
@@ -15,6 +16,8 @@ pub struct NodeWorkers<'n, N: Node, T: Drop, C: Drop> {
     pub shared: &'n Shared<N>,
     pub writers: Vec<WriterQueue<T, C>>,
     pub runner: Option<WakeUps>,
+    /// By which the workers' shares come back: those of a reader for each peer, and of a runner.
+    pub shares: ShareChannel,
 }
 
 impl<'n, N: Node, T: Drop, C: Drop> NodeWorkers<'n, N, T, C> {
@@ -36,11 +39,13 @@ impl<'n, N: Node, T: Drop, C: Drop> NodeWorkers<'n, N, T, C> {
             writers.push(WriterQueue::new(alloc)?)?;
         }
         let runner = wake_ups(alloc, has_runner)?;
+        let shares = ShareChannel::new(alloc, peers.saturating_add(1))?;
         Ok(NodeWorkers {
             node,
             shared,
             writers,
             runner,
+            shares,
         })
     }
 

@@ -3,10 +3,9 @@ ghost use Rattle.wires.specs.Fault.{IsFaultOfGathering};
 ghost use Rattle.wires.specs.Gathered.{AreGathered, FederatesAgree};
 
 use crate::gathering::gather_desk;
-use crate::job::WorkerResult;
 use crate::run_fault::{Cause, RunFault};
 use crate::threads::RunResults;
-use desk::{Desk, Shared};
+use desk::{Desk, Share, Shared};
 use node::Node;
 use std::alloc::Global;
 use wires_transports::Ending;
@@ -49,8 +48,8 @@ impl<H: Node, M: Node> Nodes<H, M> {
         })
     }
 
-    /// The desks, from what all workers leave: each one's journal is what the shares of its node's workers say. Where a
-    /// node's workers don't agree with its journal, or there are workers of another count of federates:
+    /// The desks, from the shares that came back: each one's journal is what the shares of its node's workers say.
+    /// Where these don't agree with it, as where one is missing, or there are those of another count of federates:
     /// `SharesDisagree`.
     pub fn gather(self, alloc: Global, results: RunResults) -> Result<Gathered<H, M>, RunFault>
         ensures each { IfOk result (λ gathered. length gathered.federates.items ≡ length self.federates.items) }
@@ -60,7 +59,7 @@ impl<H: Node, M: Node> Nodes<H, M> {
         if self.federates.len() != results.federates.len() {
             return Err(RunFault::NotFinished(Cause::SharesDisagree));
         }
-        let coordinator = gather_desk(alloc, self.coordinator, results.coordinator)?;
+        let coordinator = gather_desk(self.coordinator, results.coordinator)?;
         let federates = desks_of(alloc, self.federates, results.federates)?;
         Ok(Gathered {
             coordinator,
@@ -69,20 +68,20 @@ impl<H: Node, M: Node> Nodes<H, M> {
     }
 }
 
-// The federates' desks, each from what its own workers left.
+// The federates' desks, each from the shares of its own workers.
 fn desks_of<M: Node>(
     alloc: Global,
     federates: Vec<Shared<M>>,
-    results: Vec<Vec<WorkerResult>>,
+    shares: Vec<Vec<Share>>,
 ) -> Result<Vec<Desk<M>>, RunFault>
-    requires count { length federates.items ≡ length results.items }
+    requires count { length federates.items ≡ length shares.items }
     ensures each { IfOk result (λ desks. length desks.items ≡ length federates.items) }
-    ensures shares { IfOk result (λ desks. FederatesAgree desks.items results.items) }
+    ensures shares { IfOk result (λ desks. FederatesAgree desks.items shares.items) }
     ensures fault { IfErr result IsFaultOfGathering }
 {
     let mut desks = Vec::with_capacity(alloc, federates.len())?;
-    for (federate, left) in federates.into_iter().zip(results) {
-        desks.push(gather_desk(alloc, federate, left)?)?;
+    for (federate, own) in federates.into_iter().zip(shares) {
+        desks.push(gather_desk(federate, own)?)?;
     }
     Ok(desks)
 }

@@ -9,16 +9,26 @@ use crate::nobody::{NoAcceptor, NoDial};
 use crate::node_workers::NodeWorkers;
 use crate::run_fault::RunFault;
 use crate::runtime::Runtime;
+use crate::share_channel::ShareChannel;
 use crate::threads::start;
-use desk::Shared;
+use desk::{Share, Shared};
 use node::{Node, NodeId};
 use std::alloc::Global;
 use wires_transports::{Acceptor, Cut, Dial, Ending, Transport};
 use wires_workers::Gate;
 
+/// What the workers of one node leave.
+#[derive(Drop)]
+pub struct NodeResults {
+    /// The shares that came back, from which the node's desk is gathered: `gather_desk`.
+    pub shares: Vec<Share>,
+    /// What each said at its end.
+    pub workers: Vec<WorkerResult>,
+}
+
 /// Runs the coordinator in threads until `ending` is set: a worker sets it once the coordinator is finished, and
-/// acceptor and watcher may before. Returns what its workers leave, from which its desk is gathered: `gather_desk`. All
-/// of them have ended when it returns, and `ending` is set.
+/// acceptor and watcher may before. Returns what its workers leave. All of them have ended when it returns, and
+/// `ending` is set.
 ///
 /// Acceptor and watcher end once `ending` is set, and the acceptor ends then what connections are left. Where a thread
 /// can't be started, the others end: `NoThread`.
@@ -38,7 +48,7 @@ pub fn run_coordinator<
     watcher: W,
     gate: &G,
     ending: &Ending,
-) -> Result<Vec<WorkerResult>, RunFault> {
+) -> Result<NodeResults, RunFault> {
     let results = coordinator_results(rt, alloc, shared, lines, watcher, gate, ending);
     ending.set();
     results
@@ -61,7 +71,7 @@ fn coordinator_results<
     watcher: W,
     gate: &G,
     ending: &Ending,
-) -> Result<Vec<WorkerResult>, RunFault> {
+) -> Result<NodeResults, RunFault> {
     let CoordinatorLines { arrivals, acceptor } = lines;
     let count = arrivals.len();
     if arrivals.is_empty() {
@@ -83,14 +93,27 @@ fn coordinator_results<
         gate,
         ending,
     )?;
-    start(rt, alloc, jobs, ending)
+    run_jobs(rt, alloc, jobs, &workers.shares, ending)
+}
+
+// Starts a node's jobs, and waits for all of them; what they leave, and the shares that come back by this channel.
+fn run_jobs<'a, R: Runtime, J: Work + Send + 'a>(
+    rt: &R,
+    alloc: Global,
+    jobs: Vec<J>,
+    shares: &ShareChannel,
+    ending: &Ending,
+) -> Result<NodeResults, RunFault> {
+    let workers = start(rt, alloc, jobs, ending)?;
+    let shares = shares.take_all(rt, alloc)?;
+    Ok(NodeResults { shares, workers })
 }
 
 /// What a federate leaves that ran by itself.
 #[derive(Drop)]
 pub struct FederateRun {
-    /// What its workers leave, from which its desk is gathered: `gather_desk`.
-    pub results: Vec<WorkerResult>,
+    /// What its workers leave.
+    pub results: NodeResults,
     /// Whether it ended since the coordinator acknowledged a signal that was never offered to it.
     pub shows_other_history: bool,
 }
@@ -120,14 +143,14 @@ pub fn run_federate<
     ending: &Ending,
 ) -> Result<FederateRun, RunFault>
     ensures history { IfOk result
-        (λ run. run.shows_other_history ≡ list_any (λ left. left.shows_other_history) run.results.items) }
+        (λ run. run.shows_other_history ≡ list_any (λ left. left.shows_other_history) run.results.workers.items) }
 {
     let results = federate_results::<R, M, G, T, C, D, W>(
         rt, alloc, shared, lines, watcher, gate, ending,
     );
     ending.set();
     let results = results?;
-    let shows_other_history = shows_other_history(&results);
+    let shows_other_history = shows_other_history(&results.workers);
     Ok(FederateRun {
         results,
         shows_other_history,
@@ -158,7 +181,7 @@ fn federate_results<
     watcher: W,
     gate: &G,
     ending: &Ending,
-) -> Result<Vec<WorkerResult>, RunFault> {
+) -> Result<NodeResults, RunFault> {
     let FederateLines {
         number,
         dial,
@@ -175,5 +198,5 @@ fn federate_results<
     let jobs: Vec<Job<'_, M, G, T, C, D, NoAcceptor, W>> = jobs_of_federate(
         alloc, &workers, connector, terms, gate, ending,
     )?;
-    start(rt, alloc, jobs, ending)
+    run_jobs(rt, alloc, jobs, &workers.shares, ending)
 }

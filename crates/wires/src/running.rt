@@ -11,12 +11,14 @@ use crate::node_workers::{NodeWorkers, channels};
 use crate::nodes::Nodes;
 use crate::run_fault::{Cause, RunFault};
 use crate::runtime::{NetRuntime, Runtime};
+use crate::share_channel::ShareChannel;
 use crate::terms::Terms;
-use crate::threads::{ListedJobs, RunResults, start_all};
+use crate::threads::{RunResults, start_all};
 use crossbeam_channel::Receiver;
 use node::{Node, NodeId};
 use std::alloc::Global;
 use std::net::{Net, TcpListener, TcpStream};
+use wires_traffic::RunCounts;
 use wires_transports::{
     Accepted, Acceptor, Cut, Dial, Ending, ExpectedPeers, TcpAcceptor, TcpCut, TcpDial,
     TcpTransport, Transport, listen,
@@ -94,7 +96,28 @@ fn run_lines<
         ending,
     )?;
     let federate_jobs = jobs_of_federates(alloc, &federates, dials, terms, gate, ending)?;
-    start_all(rt, alloc, coordinator_jobs, federate_jobs, ending)
+    let counts = start_all(rt, alloc, coordinator_jobs, federate_jobs, ending)?;
+    results_of(rt, alloc, &coordinator.shares, &federates, counts)
+}
+
+// What the workers left that counted this. The coordinator's shares came back by this channel, the federates' by their
+// own.
+fn results_of<R: Runtime, M: Node, T: Drop, C: Drop>(
+    rt: &R,
+    alloc: Global,
+    coordinator: &ShareChannel,
+    federates: &[NodeWorkers<'_, M, T, C>],
+    counts: RunCounts,
+) -> Result<RunResults, RunFault> {
+    let mut shares = Vec::with_capacity(alloc, federates.len())?;
+    for workers in federates {
+        shares.push(workers.shares.take_all(rt, alloc)?)?;
+    }
+    Ok(RunResults {
+        coordinator: coordinator.take_all(rt, alloc)?,
+        federates: shares,
+        counts,
+    })
 }
 
 // How the federates connect, and where the coordinator's ends of their connections come.
@@ -131,16 +154,14 @@ fn jobs_of_federates<'a, 'n, M: Node, G: Gate, T: Drop, C: Drop, D: Drop>(
     terms: Terms,
     gate: &'a G,
     ending: &'a Ending,
-) -> Result<ListedJobs<Job<'a, M, G, T, C, D, NoAcceptor, NoWatcher>>, RunFault> {
+) -> Result<Vec<Job<'a, M, G, T, C, D, NoAcceptor, NoWatcher>>, RunFault> {
     let mut jobs = Vec::new(alloc);
-    let mut counts = Vec::with_capacity(alloc, federates.len())?;
     for (workers, dial) in federates.iter().zip(dials) {
         let connector = Connector::Together(dial);
         let mut own = jobs_of_federate(alloc, workers, connector, terms, gate, ending)?;
-        counts.push(own.len())?;
         jobs.append(&mut own)?;
     }
-    Ok(ListedJobs { jobs, counts })
+    Ok(jobs)
 }
 
 /// Runs a federation in threads over TCP on loopback, on a port that the system gives: see `run`. A connection that

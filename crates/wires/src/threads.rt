@@ -1,57 +1,28 @@
 //! Threads of nodes: started in order, and waited for.
-use crate::job::{Work, WorkerResult, counts_of};
+use crate::job::{Work, WorkerResult};
 use crate::run_fault::{Cause, RunFault};
 use crate::runtime::Runtime;
+use desk::Share;
 use std::alloc::Global;
 use std::thread;
 use std::thread::{JoinHandle, Scope};
 use wires_traffic::{Counts, RunCounts};
 use wires_transports::Ending;
 
-/// What the workers of a federation's nodes leave, the federates' by number. Only a run gives it: nobody else can say
-/// what workers left.
+/// What the workers of a federation's nodes leave: the shares that came back, the federates' by number, and what they
+/// counted. Only a run gives it: nobody else can say what workers left.
 #[derive(Drop)]
 pub struct RunResults {
-    pub(crate) coordinator: Vec<WorkerResult>,
-    pub(crate) federates: Vec<Vec<WorkerResult>>,
+    pub(crate) coordinator: Vec<Share>,
+    pub(crate) federates: Vec<Vec<Share>>,
+    pub(crate) counts: RunCounts,
 }
 
 impl RunResults {
-    // None yet, with room for those of this many jobs of the coordinator and of each federate.
-    fn with_room(
-        alloc: Global,
-        coordinator: usize,
-        federates: &[usize],
-    ) -> Result<RunResults, RunFault> {
-        let mut lists = Vec::with_capacity(alloc, federates.len())?;
-        for count in federates {
-            lists.push(Vec::with_capacity(alloc, *count)?)?;
-        }
-        Ok(RunResults {
-            coordinator: Vec::with_capacity(alloc, coordinator)?,
-            federates: lists,
-        })
-    }
-
     /// What they counted.
     pub fn counts(&self) -> RunCounts {
-        let mut federates = Counts::none();
-        for own in &self.federates {
-            federates = federates.plus(counts_of(own));
-        }
-        RunCounts {
-            coordinator: counts_of(&self.coordinator),
-            federates,
-        }
+        self.counts
     }
-}
-
-/// The jobs of all federates: each one's own list, one behind the other.
-#[derive(Drop)]
-pub struct ListedJobs<J: Drop> {
-    pub jobs: Vec<J>,
-    /// How many jobs each federate has.
-    pub counts: Vec<usize>,
 }
 
 /// Starts each of a node's jobs in a thread of its own, in this order, waits for all of them, and returns what they
@@ -77,26 +48,24 @@ pub fn start<'a, R: Runtime, J: Work + Send + 'a>(
     )
 }
 
-/// The same of all nodes of a federation: the coordinator's jobs, then each federate's.
+/// The same of all nodes of a federation: the coordinator's jobs, then all federates'. Returns what they counted.
 pub fn start_all<'a, R: Runtime, J: Work + Send + 'a, K: Work + Send + 'a>(
     rt: &R,
     alloc: Global,
     coordinator: Vec<J>,
-    federates: ListedJobs<K>,
+    federates: Vec<K>,
     ending: &Ending,
-) -> Result<RunResults, RunFault> {
-    let ListedJobs { jobs, counts } = federates;
-    let room = RunResults::with_room(alloc, coordinator.len(), &counts)?;
+) -> Result<RunCounts, RunFault> {
     thread::scope(
         thread::scope_env(),
         rt,
-        move |scope| -> Result<RunResults, RunFault> {
+        move |scope| -> Result<RunCounts, RunFault> {
             let coordinator_threads = spawn(rt, alloc, scope, coordinator, ending)?;
-            let federate_threads = spawn(rt, alloc, scope, jobs, ending)?;
-            let mut results = room;
-            wait(rt, coordinator_threads, &mut results.coordinator)?;
-            wait_for_each(rt, federate_threads, &counts, &mut results.federates)?;
-            Ok(results)
+            let federate_threads = spawn(rt, alloc, scope, federates, ending)?;
+            Ok(RunCounts {
+                coordinator: wait_for_counts(rt, coordinator_threads),
+                federates: wait_for_counts(rt, federate_threads),
+            })
         },
     )
 }
@@ -163,20 +132,11 @@ fn wait<R: Runtime>(
     Ok(())
 }
 
-// The same of the federates' threads, of which each federate has this many: what its own leave goes to its own list.
-fn wait_for_each<R: Runtime>(
-    rt: &R,
-    threads: Vec<JoinHandle<WorkerResult>>,
-    counts: &[usize],
-    results: &mut [Vec<WorkerResult>],
-) -> Result<(), RunFault> {
-    let mut threads = threads.into_iter();
-    for (count, own) in counts.iter().zip(results) {
-        for _ in 0..*count {
-            if let Some(thread) = threads.next() {
-                own.push(thread.join(rt))?;
-            }
-        }
+// Waits for threads to end; what they counted.
+fn wait_for_counts<R: Runtime>(rt: &R, threads: Vec<JoinHandle<WorkerResult>>) -> Counts {
+    let mut counts = Counts::none();
+    for thread in threads {
+        counts = counts.plus(thread.join(rt).counts);
     }
-    Ok(())
+    counts
 }

@@ -4,6 +4,8 @@ pub mod Point
 pub mod RetryState
 -- What a worker's share is after it handed in an event, or several.
 pub mod HandedIn
+-- The events that a runner hands in.
+pub mod Runner
 -- The events that a reader makes of what its peer sends.
 pub mod AreRead
 -- Which frames go to which peer.

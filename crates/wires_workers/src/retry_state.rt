@@ -1,6 +1,8 @@
 ghost use Rattle.std.specs.Prelude.{◌≡◌};
-ghost use Rattle.wires_workers.specs.RetryState.{turn_of, turned, after_turn, waited, after_wait};
+ghost use Rattle.wires_workers.specs.RetryState.{turn_of, turned, after_turn, waited, after_wait, after_waiting};
+ghost use Rattle.wires_workers.specs.RetryState.{RepeatsAfterSilence};
 
+use crate::wake_ups::WakeUp;
 use std::marker::Model;
 use wires_transports::times::WAITS_BEFORE_RESEND;
 
@@ -91,4 +93,21 @@ impl RetryState {
         }
         self.turn()
     }
+
+    /// A wait is over, by this wake-up or without one.
+    pub(crate) fn after_waiting(&mut self, wake_up: Option<WakeUp>) -> Next
+        ensures { result ≡ after_waiting self.old wake_up }
+    {
+        match wake_up {
+            Some(WakeUp::Done) => self.after_wait(true),
+            Some(WakeUp::NotConnected) => self.after_turns(1, true),
+            None => self.after_wait(false),
+        }
+    }
 }
+
+/// What may be lost is sent again after each so many waits in a row without a wake-up, and after no other.
+#[tactic(auto, using(crate::proofs::Silence::repeats_after_silence))]
+pub fn a_runner_repeats_after_silence()
+    ensures { RepeatsAfterSilence }
+{}

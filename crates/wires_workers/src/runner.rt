@@ -1,9 +1,15 @@
 //! The worker that makes a node say and run what comes next.
+ghost use Rattle.std.specs.Prelude.{List, [], ◌≤◌, ℕ};
+ghost use Rattle.node.specs.declared.event.Event.{Event as IsEvent};
+ghost use Rattle.wires_workers.specs.HandedIn.{AreHandedIn, events_of_turns};
+ghost use Rattle.wires_workers.specs.Runner.{AreOf, AreOfRunner};
+ghost use Rattle.wires_workers.specs.declared.turns.TheConstants.{TURNS_AT_ONCE};
+
 use crate::context::Context;
 use crate::gate::Gate;
 use crate::retry_state::{Next, RetryState};
 use crate::turns::Turns;
-use crate::wake_ups::{Waited, WakeUp, WakeUps};
+use crate::wake_ups::{Waited, WakeUps};
 use desk::Share;
 use node::Node;
 use std::alloc::Global;
@@ -13,28 +19,23 @@ use wires_transports::{Cut, Transport};
 
 /// Runs a node for this many turns, those that its reader makes among them, or until the run is to end. Where the turns
 /// are used up, the run is to end. Returns the runner's share of the journal.
+#[tactic(auto, using(crate::proofs::Runners::not_begun, crate::proofs::Runners::goes_on))]
 pub fn run<R: Wait + Clock, N: Node, G: Gate, T: Transport, C: Cut>(
     rt: &R,
     alloc: Global,
     context: &Context<'_, N, G, T, C>,
     wake_ups: &WakeUps,
     turns: u32,
-) -> Share {
+) -> Share
+    ensures { (events : List IsEvent) × AreOfRunner events × AreHandedIn [] events result }
+{
     let mut share = Share::new(alloc);
     let mut next = begin(rt, wake_ups, turns);
     for _ in rt.forever() {
-        if context.ending.is_set() {
+        if next == Next::End || context.ending.is_set() {
             break;
         }
-        next = match next {
-            Next::Turn => take_turns(rt, alloc, context, wake_ups, &mut share),
-            Next::Wait => wait(rt, wake_ups),
-            Next::Repeat => {
-                context.repeat(rt, alloc, &mut share);
-                wake_ups.state(rt).turn()
-            }
-            Next::End => break,
-        };
+        next = go_on(rt, alloc, context, wake_ups, &mut share, next);
     }
     context.end(rt);
     share
@@ -47,15 +48,33 @@ fn begin<R: Wait>(rt: &R, wake_ups: &WakeUps, turns: u32) -> Next {
     state.turn()
 }
 
+// Does what comes next. Returns what comes then.
+#[tactic(auto, using(crate::proofs::Runners::of_turns, crate::proofs::Runners::of_wait, crate::proofs::Runners::of_repeat, crate::proofs::Runners::of_end))]
+fn go_on<R: Wait + Clock, N: Node, G: Gate, T: Transport, C: Cut>(
+    rt: &R,
+    alloc: Global,
+    context: &Context<'_, N, G, T, C>,
+    wake_ups: &WakeUps,
+    share: &mut Share,
+    next: Next,
+) -> Next
+    ensures { (events : List IsEvent) × AreOf next events × AreHandedIn share.old events share.new }
+{
+    match next {
+        Next::Turn => take_turns(rt, alloc, context, wake_ups, share),
+        Next::Wait => wait(rt, wake_ups),
+        Next::Repeat => {
+            context.repeat(rt, alloc, share);
+            wake_ups.state(rt).turn()
+        }
+        Next::End => Next::End,
+    }
+}
+
 // Waits for a wake-up. Returns what comes then.
 fn wait<R: Wait + Clock>(rt: &R, wake_ups: &WakeUps) -> Next {
     let wake_up = wake_ups.wait(rt);
-    let mut state = wake_ups.state(rt);
-    match wake_up {
-        Some(WakeUp::Done) => state.after_wait(true),
-        Some(WakeUp::NotConnected) => state.after_turns(1, true),
-        None => state.after_wait(false),
-    }
+    wake_ups.state(rt).after_waiting(wake_up)
 }
 
 // Makes turns, where one is left: they answer the wake-ups that are waiting. Returns what comes then.
@@ -65,7 +84,9 @@ fn take_turns<R: Wait + Clock, N: Node, G: Gate, T: Transport, C: Cut>(
     context: &Context<'_, N, G, T, C>,
     wake_ups: &WakeUps,
     share: &mut Share,
-) -> Next {
+) -> Next
+    ensures { (made : ℕ) × (made ≤ TURNS_AT_ONCE) × AreHandedIn share.old (events_of_turns made) share.new }
+{
     let Waited { has_done, failed } = wake_ups.take_waiting(rt);
     let mut state = wake_ups.state(rt);
     if has_done {

@@ -58,7 +58,7 @@ impl<H: Node, M: Blank> Model for Stations<H, M> {
       steps = w.steps.steps;
     } };
 
-    ghost invariant = { λ w. IsWorld H.IS_COORDINATOR M.IS_COORDINATOR w.federates.items
+    ghost invariant = { λ w. IsWorld H.HUB M.HUB w.federates.items
         × IsReserved w.coordinator.ends w.down.items w.most w.spare };
 }
 
@@ -69,8 +69,8 @@ impl<H: Node, M: Blank> Stations<H, M> {
         coordinator: Station<H>,
         federates: Vec<Station<M>>,
     ) -> Result<Stations<H, M>, Memory>
-        requires coordinator { H.IS_COORDINATOR ≡ true }
-        requires federate { M.IS_COORDINATOR ≡ false }
+        requires coordinator { H.HUB ≡ true }
+        requires federate { M.HUB ≡ false }
         requires one_peer { HaveOnePeer federates.items }
         ensures { IfOk result (λ w. w ≡ unused coordinator federates.items) }
     {
@@ -397,10 +397,10 @@ fn step_at<M: Node>(
 ) -> Result<Reply, node::Memory>
     requires there { federate < length federates.old.items }
     ensures answer { (s : StationOf M) → slice_get federates.old.items federate ≡ Some s
-        → IfOk result (λ reply. answer_in reply ≡ (step_of M.core M.IS_COORDINATOR s event).answer) }
+        → IfOk result (λ reply. answer_in reply ≡ (step_of M.core M.HUB s event).answer) }
     ensures stepped { (s : StationOf M) → slice_get federates.old.items federate ≡ Some s
         → OnOk result (federates.new.items
-        ≡ set federates.old.items federate (step_of M.core M.IS_COORDINATOR s event).station) }
+        ≡ set federates.old.items federate (step_of M.core M.HUB s event).station) }
     ensures unchanged { OnErr result (federates.new.items ≡ federates.old.items) }
 {
     federates[federate].step(event)

@@ -12,8 +12,8 @@ loop-place-preserved g c =
     let step = ap (λ s. record { station = s; answer = answer_in c.in-Ok.reply }) c.reuse.ensures ∙ c.in-Ok.ensures.ended in
     let added = is_added c.in-Ok.reply c.loop-place.replies c.add.new.self c.add.result c.add.ensures.has_done c.add.ensures.history c.add.ensures.frames c.add.ensures.unchanged in
     record {
-      station = one_step g.N.Node.core g.N.Node.IS_COORDINATOR c.args.station.now c.loop-place.station c.reuse.new.self c.args.events.now c.loop-place.place c.index-events-place.result c.in-Ok.reply
+      station = one_step g.N.Node.core g.N.Node.HUB c.args.station.now c.loop-place.station c.reuse.new.self c.args.events.now c.loop-place.place c.index-events-place.result c.in-Ok.reply
           c.loop-place-test.true c.index-events-place.is c.loop-place.invariant.station step;
-      replies = one_answer g.N.Node.core g.N.Node.IS_COORDINATOR c.args.station.now c.loop-place.station c.reuse.new.self c.args.events.now c.loop-place.place c.index-events-place.result c.in-Ok.reply
+      replies = one_answer g.N.Node.core g.N.Node.HUB c.args.station.now c.loop-place.station c.reuse.new.self c.args.events.now c.loop-place.place c.index-events-place.result c.in-Ok.reply
           c.loop-place-test.true c.index-events-place.is c.loop-place.invariant.station step c.args.replies.now c.loop-place.replies c.add.new.self c.loop-place.invariant.replies added;
     }

@@ -6,6 +6,6 @@ use Rattle.desk.proofs.desk.step_all.Given as goal
 -- this many events' steps are made, and what was said to them is added
 abbrev pub invariant-loop-place : goal.invariant-loop-place
 invariant-loop-place g l = record {
-  station : l.station ≡ after_all g.N.Node.core g.N.Node.IS_COORDINATOR l.fn.station (take l.place l.events);
-  replies : AreAdded l.fn.replies (answers_of g.N.Node.core g.N.Node.IS_COORDINATOR l.fn.station (take l.place l.events)) l.replies;
+  station : l.station ≡ after_all g.N.Node.core g.N.Node.HUB l.fn.station (take l.place l.events);
+  replies : AreAdded l.fn.replies (answers_of g.N.Node.core g.N.Node.HUB l.fn.station (take l.place l.events)) l.replies;
 }

@@ -11,7 +11,7 @@ pub loop-number-preserved : goal.loop-number-preserved
 loop-number-preserved g c =
     let n = c.loop-number.number in
     let core = g.N.Node.core in
-    let flag = g.N.Node.IS_COORDINATOR in
+    let flag = g.N.Node.HUB in
     let step = ap (λ s. record { station = s; answer = answer_in c.in-Ok.reply }) c.reuse.ensures ∙ c.in-Ok.ensures.ended in
     let added = is_added c.in-Ok.reply c.loop-number.replies c.add.new.self c.add.result c.add.ensures.has_done c.add.ensures.history c.add.ensures.frames c.add.ensures.unchanged in
     record {
@@ -26,7 +26,7 @@ pub returns-then-not-has_done-clause-station : goal.returns-then-not-has_done-cl
 returns-then-not-has_done-clause-station g c =
     let n = c.loop-number.number in
     let step = ap (λ s. record { station = s; answer = answer_in c.in-Ok.reply }) c.reuse.ensures ∙ c.in-Ok.ensures.ended in
-    one_turn_step g.N.Node.core g.N.Node.IS_COORDINATOR c.args.station.now c.loop-number.station c.reuse.new.self n (n + 1) c.turn_event.result c.in-Ok.reply
+    one_turn_step g.N.Node.core g.N.Node.HUB c.args.station.now c.loop-number.station c.reuse.new.self n (n + 1) c.turn_event.result c.in-Ok.reply
     refl c.turn_event.ensures c.loop-number.invariant.station step
 
 pub returns-then-not-has_done-clause-replies : goal.returns-then-not-has_done-clause-replies
@@ -34,5 +34,5 @@ returns-then-not-has_done-clause-replies g c =
     let n = c.loop-number.number in
     let step = ap (λ s. record { station = s; answer = answer_in c.in-Ok.reply }) c.reuse.ensures ∙ c.in-Ok.ensures.ended in
     let added = is_added c.in-Ok.reply c.loop-number.replies c.add.new.self c.add.result c.add.ensures.has_done c.add.ensures.history c.add.ensures.frames c.add.ensures.unchanged in
-    one_turn_answer g.N.Node.core g.N.Node.IS_COORDINATOR c.args.station.now c.loop-number.station c.reuse.new.self n (n + 1) c.turn_event.result c.in-Ok.reply
+    one_turn_answer g.N.Node.core g.N.Node.HUB c.args.station.now c.loop-number.station c.reuse.new.self n (n + 1) c.turn_event.result c.in-Ok.reply
     refl c.turn_event.ensures c.loop-number.invariant.station step c.args.replies.now c.loop-number.replies c.add.new.self c.loop-number.invariant.replies added

@@ -36,7 +36,7 @@ loop-desk-preserved g c =
       count = c.add.ensures.count ∙ at.invariant.count;
       earlier = next_known at.reports.reports c.add.new.reports.reports c.report.result c.in_ok-add.ensures.taken
           (c.report.ensures.federate ∙ ap length c.reports-federate.ensures) at.invariant.earlier;
-      reported = one_desk_more g.M.Node.core g.M.Node.IS_COORDINATOR g.M.Reporting.tells at.yielded desk at.reports.reports c.add.new.reports.reports c.report.result (length c.reports-federate.result.now)
+      reported = one_desk_more g.M.Node.core g.M.Node.HUB g.M.Reporting.tells at.yielded desk at.reports.reports c.add.new.reports.reports c.report.result (length c.reports-federate.result.now)
           c.in_ok-add.ensures.taken (ap length c.reports-federate.ensures) at.invariant.reported c.report.ensures;
       all = at.invariant.all ∙ (ap (λ (ds : List (Desk g.row.M.Denot)). at.yielded ++ ds) steps ∙ moved);
       rest =
@@ -53,4 +53,4 @@ returns-clause-ok g c =
     let empty : into_iter_items at.desk-iterator ≡ [] = nil_from_length _ (sym at.invariant.rest ∙ none.0) in
     let all : at.yielded ≡ c.args.desks.items
     = sym (append-nil at.yielded) ∙ sym (ap (λ (ds : List (Desk g.row.M.Denot)). at.yielded ++ ds) empty) ∙ sym at.invariant.all in
-    subst (λ (ds : List (Desk g.row.M.Denot)). AreReportsOf g.M.Node.core g.M.Node.IS_COORDINATOR g.M.Reporting.tells ds at.reports.reports) all at.invariant.reported
+    subst (λ (ds : List (Desk g.row.M.Denot)). AreReportsOf g.M.Node.core g.M.Node.HUB g.M.Reporting.tells ds at.reports.reports) all at.invariant.reported

@@ -10,7 +10,7 @@ abbrev pub invariant-loop-desk : goal.invariant-loop-desk
 invariant-loop-desk g l = record {
   count : l.reports.count ≡ federate_count l.plan;
   earlier : AreKnown (length l.reports.reports) l.reports.reports;
-  reported : AreReportsOf g.M.Node.core g.M.Node.IS_COORDINATOR g.M.Reporting.tells l.yielded l.reports.reports;
+  reported : AreReportsOf g.M.Node.core g.M.Node.HUB g.M.Reporting.tells l.yielded l.reports.reports;
   all : l.fn.desks.items ≡ l.yielded ++ into_iter_items l.desk-iterator;
   rest : into_iter_len l.desk-iterator ≡ length (into_iter_items l.desk-iterator);
 }

@@ -9,5 +9,5 @@ pub returns-clause-reported : goal.returns-clause-reported
 returns-clause-reported g c =
     IfOk-weaker c.take_apart.result.1 _ _
     (λ asked all. of_some_left c.run_watched-audit.result.1
-    (λ (left : RunResults). AreReported g.H.Node.core g.H.Node.IS_COORDINATOR g.M.Node.core g.M.Node.IS_COORDINATOR g.M.Reporting.tells left asked.reports.reports asked.coordinator) all)
+    (λ (left : RunResults). AreReported g.H.Node.core g.H.Node.HUB g.M.Node.core g.M.Node.HUB g.M.Reporting.tells left asked.reports.reports asked.coordinator) all)
     c.take_apart.ensures.reported

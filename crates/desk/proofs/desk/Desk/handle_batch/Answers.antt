@@ -21,8 +21,8 @@ journal_with g c =
 
 pub invariant_of-self-2 : goal.invariant_of-self-2
 invariant_of-self-2 g c =
-    let made = c.step_all-made.ensures.station ∙ ap (λ l. after_all g.N.Node.core g.N.Node.IS_COORDINATOR c.self.inside.station (take c.step_all-made.result l)) c.events.ensures in
-    replays_all g.N.Node.core g.N.Node.IS_COORDINATOR c.initial_stations_stay.ensures c.self.inside.station c.step_all-made.new.station c.self.inside.journal c.truncate.new.self
+    let made = c.step_all-made.ensures.station ∙ ap (λ l. after_all g.N.Node.core g.N.Node.HUB c.self.inside.station (take c.step_all-made.result l)) c.events.ensures in
+    replays_all g.N.Node.core g.N.Node.HUB c.initial_stations_stay.ensures c.self.inside.station c.step_all-made.new.station c.self.inside.journal c.truncate.new.self
     (take c.step_all-made.result c.args.batch.now) c.self.invariant made (journal_with g c)
 
 pub returns-clause-journal : goal.returns-clause-journal
@@ -30,5 +30,5 @@ returns-clause-journal g c = journal_with g c ∙ ap (λ d. d.journal ++ take c.
 
 pub returns-clause-initial : goal.returns-clause-initial
 returns-clause-initial g c =
-    initial_after g.N.Node.core g.N.Node.IS_COORDINATOR c.initial_stations_stay.ensures c.self.inside.station c.step_all-made.new.station (take c.step_all-made.result c.events.result.now) c.step_all-made.ensures.station
+    initial_after g.N.Node.core g.N.Node.HUB c.initial_stations_stay.ensures c.self.inside.station c.step_all-made.new.station (take c.step_all-made.result c.events.result.now) c.step_all-made.ensures.station
     ∙ ap (λ d. initial_of g.N.Node.core d.station) c.self.view_is

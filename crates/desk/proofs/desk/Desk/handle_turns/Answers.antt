@@ -25,7 +25,7 @@ overflow_sub-len g c =
 
 pub invariant_of-self-2 : goal.invariant_of-self-2
 invariant_of-self-2 g c =
-    replays_all g.N.Node.core g.N.Node.IS_COORDINATOR c.initial_stations_stay.ensures c.self.inside.station c.step_turns-made.new.station c.self.inside.journal c.truncate.new.self
+    replays_all g.N.Node.core g.N.Node.HUB c.initial_stations_stay.ensures c.self.inside.station c.step_turns-made.new.station c.self.inside.journal c.truncate.new.self
     (turn_events c.step_turns-made.result.events) c.self.invariant c.step_turns-made.ensures.station (journal_with g c)
 
 pub returns-clause-journal : goal.returns-clause-journal
@@ -33,6 +33,6 @@ returns-clause-journal g c = journal_with g c ∙ ap (λ d. d.journal ++ turn_ev
 
 pub returns-clause-initial : goal.returns-clause-initial
 returns-clause-initial g c =
-    initial_after g.N.Node.core g.N.Node.IS_COORDINATOR c.initial_stations_stay.ensures c.self.inside.station c.step_turns-made.new.station
+    initial_after g.N.Node.core g.N.Node.HUB c.initial_stations_stay.ensures c.self.inside.station c.step_turns-made.new.station
     (turn_events c.step_turns-made.result.events) c.step_turns-made.ensures.station
     ∙ ap (λ d. initial_of g.N.Node.core d.station) c.self.view_is

@@ -10,4 +10,4 @@ pub returns-clause-searched : goal.returns-clause-searched
 returns-clause-searched c = rw (← c.self.view_is)
     (read_on_longer (initial_of c.self.inside.plan.now c.self.inside.programs.now c.self.inside.inputs.now) c.self.inside.auditor c.self.inside.reading c.self.inside.known.items
     (map (λ j. j.now) c.args.journals.now) c.read_to_end.result c.longer_journals_are_read.ensures (c.self.invariant.ahead c.if-self.false)
-    (rw c.deref.ensures.value at (c.are_prefixes.ensures c.if-not-are_prefixes.false)) c.read_to_end.ensures.found)
+    (rw c.deref.ensures.value at (c.are_prefixes.ensures.0 c.if-not-are_prefixes.false).1) c.read_to_end.ensures.found)

@@ -3,6 +3,6 @@ use Rattle.world_stations.proofs.stations.Stations.put.Goals as goal
 
 pub invariant_of-self-2 : goal.invariant_of-self-2
 invariant_of-self-2 g c = (
-  world_with g.H.Node.IS_COORDINATOR g.M.Node.IS_COORDINATOR c.self.inside.federates.items c.replace.new.federates.items c.args.federate c.args.station c.self.invariant.0 c.requires.one_peer c.replace.ensures,
+  world_with g.H.Node.HUB g.M.Node.HUB c.self.inside.federates.items c.replace.new.federates.items c.args.federate c.args.station c.self.invariant.0 c.requires.one_peer c.replace.ensures,
   c.self.invariant.1,
 )
