@@ -25,6 +25,8 @@ mod looks;
 #[cfg(test)]
 mod made_up;
 #[cfg(test)]
+mod outboxes;
+#[cfg(test)]
 mod rows;
 #[cfg(test)]
 mod stations;

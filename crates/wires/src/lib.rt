@@ -45,5 +45,5 @@ pub use runtime::{NetRuntime, Runtime};
 pub use share_channel::ShareChannel;
 pub use terms::Terms;
 pub use threads::{RunResults, start};
-pub use wires_transports::Transport;
+pub use wires_transports::{Cut, Transport};
 pub use wires_workers::{Gate, Point};
