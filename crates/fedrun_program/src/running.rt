@@ -11,7 +11,7 @@ use fedrun_lint_source::asks_for_source_lint;
 use fedrun_logs::LogDisk;
 use fedrun_progress::{NoProgress, ProgressLine, asks_for_progress};
 use fedrun_words::{Fault, asks_for_version, print_text, refuse};
-use files_keeping::Device;
+use files_keeping::MachineDevice;
 use files_saving::Disk;
 use std::alloc::Global;
 use std::io::Write;
@@ -38,8 +38,7 @@ pub fn run<
     F: Files,
     G: Files,
     D: Disk,
-    L: LogDisk<V>,
-    V: Device + Drop + Send,
+    L: LogDisk<MachineDevice>,
     O: Write,
     E: Write,
     S: Write + Send,
@@ -65,8 +64,7 @@ fn run_words<
     F: Files,
     G: Files,
     D: Disk,
-    L: LogDisk<V>,
-    V: Device + Drop + Send,
+    L: LogDisk<MachineDevice>,
     O: Write,
     E: Write,
     S: Write + Send,

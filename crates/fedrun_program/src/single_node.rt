@@ -12,7 +12,7 @@ use fedrun_logs::LogDisk;
 use fedrun_stats::{NodeMeasures, StatsFault, end_stats};
 use fedrun_watch::{View, show, view_asked};
 use fedrun_words::{Fault, refuse, stats_file};
-use files_keeping::Device;
+use files_keeping::MachineDevice;
 use files_saving::{Disk, SaveFault};
 use std::alloc::Global;
 use std::io::Write;
@@ -30,8 +30,7 @@ pub(crate) fn measure_node<
     F: Files,
     G: Files,
     D: Disk,
-    L: LogDisk<V>,
-    V: Device + Drop + Send,
+    L: LogDisk<MachineDevice>,
     O: Write,
     E: Write,
     S: Write + Send,
@@ -73,8 +72,7 @@ fn run_node<
     F: Files,
     G: Files,
     D: Disk,
-    L: LogDisk<V>,
-    V: Device + Drop + Send,
+    L: LogDisk<MachineDevice>,
     O: Write,
     E: Write,
     S: Write + Send,
